@@ -1,0 +1,9 @@
+mod Laws
+mod Tables
+mod Counts
+mod Kept
+mod Books
+mod Variables
+mod Readings
+mod Growth
+mod Places

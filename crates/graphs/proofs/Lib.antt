@@ -1,0 +1,16 @@
+pub mod Walks
+pub mod Final
+pub mod Turns
+pub mod Instances
+pub mod Loop
+pub mod Cycle
+pub mod Lists
+pub mod Grow
+pub mod CellLaws
+pub mod Arena
+pub mod Searches
+pub mod Outcomes
+pub mod Flats
+pub mod Wholes
+pub mod Exclusive
+pub mod Spelt

@@ -1,0 +1,10 @@
+pub mod Terms
+pub mod Graph
+pub mod Meaning
+pub mod Links
+pub mod Cells
+pub mod Flat
+pub mod Whole
+pub mod Search
+pub mod Answer
+pub mod Laws

@@ -1,0 +1,3 @@
+mod Table
+mod Ends
+mod Words

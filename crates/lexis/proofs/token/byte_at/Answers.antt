@@ -1,0 +1,8 @@
+use borrow.Author.Needs.{needs}
+use mathlib.Core.Path.{sym}
+use native.Mathlib.Omega.{arith}
+use Rattle.std.proofs.shelf.Lists.{getD-past}
+use Rattle.lexis.proofs.token.byte_at.Needs as need
+
+pub returns-else-at-text : need.returns-else-at-text
+returns-else-at-text c = record { value = sym (getD-past (c .args .text .now) (c .args .at) 0 (search needs)); inside = λ h. omega arith }

@@ -1,0 +1,5 @@
+pub mod Classes
+pub mod Faults
+pub mod Runs
+pub mod Tokens
+pub mod Worth

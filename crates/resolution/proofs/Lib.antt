@@ -1,0 +1,4 @@
+pub mod Rooms
+pub mod Branches
+pub mod Loading
+pub mod Questions

@@ -1,0 +1,4 @@
+pub mod Numbers
+pub mod Leaves
+pub mod Frames
+pub mod Asked

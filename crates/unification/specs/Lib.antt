@@ -1,0 +1,4 @@
+pub mod Held
+pub mod Run
+pub mod Outcomes
+pub mod State

@@ -12,11 +12,9 @@ use Rattle.terms.specs.declared.Cell.{Cell}
 use Rattle.clauses.specs.Clauses.{raised, renamed, spliced}
 
 pub raised-var : (b : ℕ) (c : Cell) → c .tag ≡ 0 → raised b c ≡ record { tag = c .tag; form = c .form; arity = c .arity; value = c .value + b }
-unfolding raised
 raised-var b c e = cond-true (eqb (c .tag) 0) _ _ (eq-eqb (c .tag) 0 e)
 
 pub raised-other : (b : ℕ) (c : Cell) → (c .tag ≡ 0 → ⊥) → raised b c ≡ c
-unfolding raised
 raised-other b c e = cond-false (eqb (c .tag) 0) _ _ (ne-eqb (c .tag) 0 e)
 
 pub length-renamed : (b : ℕ) (cs : List Cell) → length (renamed b cs) ≡ length cs

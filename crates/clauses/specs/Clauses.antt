@@ -13,7 +13,7 @@ use Rattle.std.specs.declared.result.Result.{Result}
 use Rattle.std.specs.declared.result.Result.the-variants.{Ok, Err}
 
 -- a cell with its variable's number raised by the base; any other cell is as it was
-unfoldable pub raised : ℕ → Cell → Cell
+abbrev pub raised : ℕ → Cell → Cell
 raised b c = cond (eqb (c .tag) 0) (record { tag = c .tag; form = c .form; arity = c .arity; value = c .value + b }) c
 
 unfoldable pub renamed : ℕ → List Cell → List Cell

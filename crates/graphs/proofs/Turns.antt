@@ -93,7 +93,7 @@ module _ (A : Algebra) where
         forth : (ρ : ℕ → T) → Sat A up (p ∷ st) ρ → Sat A up st ρ
         forth ρ sat = record { linked = sat .linked; stacked = sat .stacked .1 }
 
-    -- no valuation makes the two roots equal: nothing meets the demand
+    -- no valuation makes the two roots equal: nothing meets the condition
     pub clash-turn : (r q : ℕ) → Tie up p r q → ((ρ : ℕ → T) → Values A g ρ → ρ r ≢ ρ q) → (ρ : ℕ → T) → Values A g ρ → ¬ P ρ
     clash-turn r q tie apart ρ val d =
         let sat = solves .same ρ val .1 d in

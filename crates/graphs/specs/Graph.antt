@@ -112,7 +112,7 @@ module _ (A : Algebra) where
   abbrev pub solution : (ℕ → T) → Graph → (ℕ → ℕ) → (ℕ → ℕ) → ℕ → T
   solution h g up rank n = build h g up (suc (rank (find up n))) (find up n)
 
-  -- the links and the stack stand for the demand P, and are closed under arguments
+  -- the links and the stack stand for the condition P, and are closed under arguments
   pub record Solves (g : Graph) (P : (ℕ → T) → Type 0) (up : ℕ → ℕ) (st : List Pair) : Type 0 where
     pub closed : Closed A g up st
     pub same : (ρ : ℕ → T) → Values A g ρ → Sat A up st ρ ↔ P ρ

@@ -5,7 +5,8 @@ ghost use lib.ListN.{length};
 ghost use Rattle.std.specs.Results.{Cases};
 ghost use Rattle.std.specs.Vec.{made};
 ghost use Rattle.std.specs.Of.String.{string-bytes};
-ghost use Rattle.line.specs.Printed.{printed, wordOf};
+ghost use Rattle.line.specs.Printed.{printed, wordOf, tooLong, Told};
+ghost use Rattle.std.specs.declared.result.Result.the-variants.{Ok, Err};
 use book::Book;
 use book::SealedBook;
 use book::draft::Draft;
@@ -51,7 +52,9 @@ fn read_clauses(book: &mut Book, draft: &mut Draft, text: &[u8]) -> Result<usize
 }
 
 // The book and the question of a text; the question's cells stand in the draft.
-fn read_text(mut book: Book, draft: &mut Draft, text: &[u8]) -> Result<SealedBook, Fault> {
+fn read_text(mut book: Book, draft: &mut Draft, text: &[u8]) -> Result<SealedBook, Fault>
+    ensures { λ r. ⌜ (8192 < length (now (text .entry)) → r ≡ Err tooLong) ⌝ }
+{
     if text.len() > MOST_BYTES {
         return Err(Fault { cause: Cause::Full, at: MOST_BYTES });
     }
@@ -74,8 +77,10 @@ fn ask(heap: Global, book: &SealedBook, question: &[Cell]) -> Result<Result<Answ
     Ok(search.ask(book, &ByForm, settings, question, pairs.as_mut_slice(), frames.as_mut_slice(), &mut path))
 }
 
-// What comes of a text.
-pub fn reply(heap: Global, text: &[u8]) -> Result<Reply, AllocError> {
+// What comes of a text, or that there was no memory for it.
+pub fn reply_to(heap: Global, text: &[u8]) -> Result<Reply, AllocError>
+    ensures { λ r. ⌜ made r (λ p. Told (now (text .entry)) p) ⌝ }
+{
     let book = Book::new(heap)?;
     let mut draft = Draft::new(heap)?;
     let sealed = match read_text(book, &mut draft, text) {
@@ -126,7 +131,9 @@ pub fn shown(heap: Global, reply: Reply) -> Result<String, AllocError>
 }
 
 // The line that is printed for a text, with its line end.
-pub fn line_for(heap: Global, text: &[u8]) -> Result<String, AllocError> {
-    let told = reply(heap, text)?;
-    shown(heap, told)
+pub fn line_for(heap: Global, text: &[u8]) -> Result<String, AllocError>
+    ensures { λ r. ⌜ made r (λ s. (p : Reply) × Told (now (text .entry)) p × (string-bytes s ≡ printed p)) ⌝ }
+{
+    let reply = reply_to(heap, text)?;
+    shown(heap, reply)
 }

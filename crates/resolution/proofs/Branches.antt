@@ -11,7 +11,7 @@ use Rattle.resolution.specs.declared.ending.Left.{Left}
 use Rattle.resolution.specs.declared.ending.Left.the-variants as left
 use Rattle.resolution.specs.declared.ending.Ending.{Ending}
 use Rattle.resolution.specs.declared.ending.Ending.the-variants.{Success, Untrue, Wrong, Cut, On}
-use Rattle.resolution.specs.Leaves.{stateOf, endingOf, noted, least, verdictOf, verdictBy, Few}
+use Rattle.resolution.specs.Leaves.{flagAfter, stateOf, endingOf, noted, least, verdictOf, verdictBy, Few}
 use Rattle.resolution.specs.declared.Verdict.the-variants.{Holds}
 use Rattle.resolution.specs.declared.ending.Leaves.{Leaves}
 use Rattle.std.specs.Options.{Cases as BySome}
@@ -68,3 +68,9 @@ holds-few l n e f = go (l .uses) (l .cut) (l .wrong) e f
     go None true w e f = absurd (let z : _≡_ {A = ℕ} 0 1 = cc in omega arith)
     go None false true e f = absurd (let z : _≡_ {A = ℕ} 0 1 = cc in omega arith)
     go None false false e f = absurd (let z : _≡_ {A = ℕ} 0 1 = cc in omega arith)
+
+-- a step that is not solved leaves the flag false
+pub flag-dropped : (o : Outcome) (f : Bool) → (o ≡ outcome.Solved → ⊥) → false ≡ flagAfter o f
+flag-dropped outcome.Solved f n = absurd (n refl)
+flag-dropped outcome.False f n = refl
+flag-dropped outcome.Wrong f n = refl

@@ -1,7 +1,7 @@
 -- The frames of a search: what each goes back to leaves room for the steps to come, and there is at most one frame to a step.
 use Prim.Native.Nat.{ℕ, _+_, _-_, _*_, _<_, _≤_}
 use mathlib.Core.List.{List, [], _∷_, _++_}
-use lib.ListN.{length, getD}
+use lib.ListN.{length, getD, set}
 use lib.Dec.{ltb}
 use mathlib.Core.Bool.{cond}
 use mathlib.Core.Path.{_≡_}
@@ -48,3 +48,8 @@ Rising (f ∷ fs) = Roomy f × (length fs ≤ f .node .step) × Rising fs
 -- what is left of a search at most: two turns for each step that is allowed still, and one for each frame
 abbrev pub turns : (allowance steps frames : ℕ) → ℕ
 turns allowance steps frames = 2 * (allowance - steps) + frames
+
+-- the branch notes the clause that a step uses; a goal without clauses uses none
+abbrev pub troddenAfter : Option ℕ → List ℕ → (step clause : ℕ) → List ℕ
+troddenAfter None branch step clause = branch
+troddenAfter (Some head) branch step clause = set branch step clause

@@ -34,6 +34,12 @@ endingOf true left.Nothing outcome.Solved = Success
 endingOf false left.Nothing outcome.Solved = Untrue
 endingOf f left.Nothing outcome.False = Untrue
 
+-- only a solved step keeps the flag
+abbrev pub flagAfter : Outcome → Bool → Bool
+flagAfter outcome.Solved f = f
+flagAfter outcome.False f = false
+flagAfter outcome.Wrong f = false
+
 -- a path of n uses is shorter than the shortest so far
 abbrev pub shorter : Option ℕ → ℕ → Bool
 shorter None n = true

@@ -1,5 +1,6 @@
 // The records of a search: goals that wait, nodes of the tree, and the frames of those whose clauses are still to be tried.
 ghost use mathlib.Core.Path.{_≡_};
+ghost use mathlib.Core.Bool.{false};
 use unification::Snapshot;
 
 // A goal list is 0 where it is empty; any other number n is that of its first goal, the n-th that waits, which says what comes after it.
@@ -29,7 +30,7 @@ pub struct Frame {
 impl Frame {
     // What a caller fills its scratch with.
     pub fn blank() -> Frame
-        ensures { λ r. ⌜ r .clause ≡ 0 ⌝ }
+        ensures { λ r. ⌜ (r .node .flag ≡ false) × (r .node .goals ≡ 0) × (r .node .step ≡ 0) × (r .clause ≡ 0) × (r .bindings .cells ≡ 0) × (r .bindings .trail ≡ 0) × (r .waiting ≡ 0) ⌝ }
     {
         Frame { node: Node { flag: false, goals: 0, step: 0 }, clause: 0, bindings: Snapshot::start(), waiting: 0 }
     }

@@ -59,7 +59,7 @@ module _ (kind : ℕ → ℕ → ℕ) (cs : List Cell) (small : length cs ≤ 15
       settled-leads o oe = subst (Leads kind cs l st l′) (sym oe) (fits-leads (t .equal) refl)
 
 -- one more equation on a solved system
-live-append : (cs : List Cell) (E F : List Pair) → AllLive arena (graph cs) E → AllLive arena (graph cs) F → AllLive arena (graph cs) (E ++ F)
+pub live-append : (cs : List Cell) (E F : List Pair) → AllLive arena (graph cs) E → AllLive arena (graph cs) F → AllLive arena (graph cs) (E ++ F)
 live-append cs [] F a b = b
 live-append cs (p ∷ E) F a b = (a .0, a .1, live-append cs E F (a .2) b)
 

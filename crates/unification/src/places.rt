@@ -6,6 +6,7 @@ ghost use lib.Dec.{ltb, eqb};
 ghost use lib.ListN.{length, getD};
 ghost use Rattle.graphs.specs.Cells.{after, nodeAt, fits, allFit, blank};
 use super::ARENA;
+use super::VARIABLES;
 use terms::Cell;
 
 // The place after the term at a place.
@@ -51,7 +52,7 @@ pub fn is_function(cells: &[Cell], node: usize) -> bool
 fn is_fit(c: Cell) -> bool
     ensures { λ r. ⌜ r ≡ fits c ⌝ }
 {
-    c.arity <= 8 && (c.tag != 0 || c.value < 1056)
+    c.arity <= 8 && (c.tag != 0 || (c.value as usize) < VARIABLES)
 }
 
 // Whether all cells have their place.

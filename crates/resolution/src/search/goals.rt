@@ -42,6 +42,7 @@ impl Search {
     pub(super) fn list_goals(&mut self, place: usize, rest: usize) -> usize
         requires space { ⌜ vec-len (now self .waiting) + (length (cellsOf (now self .bindings)) - place) ≤ 1088 ⌝ }
         ensures bindings { λ _. ⌜ now (self .exit) .bindings ≡ now (self .entry) .bindings ⌝ }
+        ensures branch { λ _. ⌜ (now (self .exit) .trodden ≡ now (self .entry) .trodden) × (now (self .exit) .best ≡ now (self .entry) .best) ⌝ }
         ensures kept { λ _. ⌜ take (vec-len (now (self .entry) .waiting)) (vec-items (now (self .exit) .waiting)) ≡ vec-items (now (self .entry) .waiting) ⌝ }
         ensures few { λ _. ⌜ vec-len (now (self .exit) .waiting) ≤ vec-len (now (self .entry) .waiting) + (length (cellsOf (now (self .entry) .bindings)) - place) ⌝ }
         ensures none { λ r. ⌜ (length (cellsOf (now (self .entry) .bindings)) ≤ place → r ≡ rest) ⌝ }

@@ -7,7 +7,8 @@ ghost use lib.ListN.{length, getD, take};
 ghost use Rattle.unification.specs.State.{cellsOf};
 ghost use Rattle.std.specs.Of.Vec.{vec-len, vec-items};
 ghost use Rattle.std.specs.Options.{Cases as BySome};
-ghost use Rattle.resolution.specs.Frames.{cellsAt, waitingAt, Roomy, listAt, Fetched};
+ghost use Rattle.resolution.specs.Leaves.{flagAfter};
+ghost use Rattle.resolution.specs.Frames.{cellsAt, waitingAt, Roomy, listAt, Fetched, troddenAfter};
 use super::Search;
 use crate::frame::Frame;
 use crate::frame::Node;
@@ -64,6 +65,9 @@ impl Search {
         requires cells { ⌜ length (cellsOf (now self .bindings)) ≤ cellsAt (frame .node .step + 1) ⌝ }
         requires waiting { ⌜ vec-len (now self .waiting) ≤ waitingAt (frame .node .step) ⌝ }
         ensures step { λ r. ⌜ r .0 .step ≡ frame .node .step + 1 ⌝ }
+        ensures flag { λ r. ⌜ r .0 .flag ≡ flagAfter (r .1) (frame .node .flag) ⌝ }
+        ensures dropped { λ r. ⌜ ((r .1 ≡ Outcome.Solved → ⊥) → r .0 .goals ≡ goal .rest) ⌝ }
+        ensures trodden { λ _. ⌜ vec-items (now (self .exit) .trodden) ≡ troddenAfter head (vec-items (now (self .entry) .trodden)) (frame .node .step) (frame .clause) ⌝ }
         ensures cells { λ _. ⌜ length (cellsOf (now (self .exit) .bindings)) ≤ cellsAt (frame .node .step + 1) ⌝ }
         ensures waiting { λ _. ⌜ vec-len (now (self .exit) .waiting) ≤ waitingAt (frame .node .step + 1) ⌝ }
     {

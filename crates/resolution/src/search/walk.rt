@@ -4,12 +4,12 @@ ghost use mathlib.Core.List.{List, [], _∷_};
 ghost use Prim.Native.Nat.{ℕ, _+_, _<_, _≤_};
 ghost use lib.ListN.{length};
 ghost use lib.Dec.{eqb};
-ghost use mathlib.Core.Bool.{not};
+ghost use mathlib.Core.Bool.{not, cond};
 ghost use Rattle.unification.specs.State.{cellsOf};
 ghost use Rattle.std.specs.Of.Vec.{vec-len, vec-items};
 ghost use Rattle.std.specs.Results.{Cases};
 ghost use Rattle.unification.specs.Held.{held, room, count};
-ghost use Rattle.resolution.specs.Leaves.{stateOf, endingOf, noted, Few};
+ghost use Rattle.resolution.specs.Leaves.{stateOf, endingOf, noted, shorter, Few};
 ghost use Rattle.resolution.specs.Frames.{cellsAt, waitingAt, Roomy, Rising, turns};
 use super::Search;
 use super::step;
@@ -32,6 +32,7 @@ impl Search {
     fn keep_path(&mut self, leaves: Leaves, step: u8)
         ensures bindings { λ _. ⌜ now (self .exit) .bindings ≡ now (self .entry) .bindings ⌝ }
         ensures waiting { λ _. ⌜ now (self .exit) .waiting ≡ now (self .entry) .waiting ⌝ }
+        ensures best { λ _. ⌜ vec-items (now (self .exit) .best) ≡ cond (shorter (leaves .uses) step) (vec-items (now (self .entry) .trodden)) (vec-items (now (self .entry) .best)) ⌝ }
     {
         if ending::is_shorter(leaves, step) {
             self.best.as_mut_slice().copy_from_slice(self.trodden.as_slice());

@@ -1,7 +1,7 @@
-ghost use Prim.Native.Nat.{ℕ, _+_, _≤_, _<_};
+ghost use Prim.Native.Nat.{_+_, _≤_, _<_};
 ghost use mathlib.Core.Path.{_≡_};
-ghost use mathlib.Core.Bool.{true, cond};
-ghost use mathlib.Core.List.{List, [], _++_};
+ghost use mathlib.Core.Bool.{cond};
+ghost use mathlib.Core.List.{[], _++_};
 ghost use lib.Dec.{leb};
 ghost use lib.ListN.{length, take, drop};
 ghost use Rattle.std.specs.Of.Vec.{vec-len, vec-items, vec-cap};
@@ -9,10 +9,10 @@ ghost use Rattle.std.specs.Vec.{made};
 ghost use Rattle.std.specs.Options.{isSome, Cases as BySome};
 ghost use Rattle.std.specs.declared.option.Option.the-variants.{Some, None};
 ghost use Rattle.graphs.specs.Links.{Down, weight, ones, roots, restore, Logged};
-ghost use Rattle.graphs.specs.Cells.{after, nodeAt};
+ghost use Rattle.graphs.specs.Cells.{after};
 ghost use Rattle.unification.specs.Held.{held, count, room};
 ghost use Rattle.unification.specs.Run.{Ready};
-ghost use Rattle.unification.specs.Outcomes.{Tells, Leads, TellsNext, LeadsNext, Settles, OneOutcome, outcomeOf};
+ghost use Rattle.unification.specs.Outcomes.{Tells, Leads, TellsNext, LeadsNext, Settles, outcomeOf};
 ghost use Rattle.unification.specs.State.{cellsOf, linksOf, trailOf, takes, cellAt};
 use super::Bindings;
 use crate::ARENA;
@@ -111,7 +111,7 @@ impl Bindings {
     pub fn cell(&self, place: usize) -> Option<Cell>
         ensures { λ r. ⌜ r ≡ cellAt (cellsOf (now (self .entry))) place ⌝ }
     {
-        if place < self.cells.len() {
+        if place < self.len() {
             Some(self.cells[place])
         } else {
             None
@@ -134,7 +134,7 @@ impl Bindings {
         ensures links { λ _. ⌜ linksOf (now (self .exit)) ≡ linksOf (now (self .entry)) ⌝ }
         ensures trail { λ _. ⌜ trailOf (now (self .exit)) ≡ trailOf (now (self .entry)) ⌝ }
     {
-        let at = self.cells.len();
+        let at = self.len();
         if cells.len() > ARENA - at || !places::all_fit(cells) {
             return None;
         }
@@ -150,7 +150,7 @@ impl Bindings {
         ensures trail { λ r. ⌜ r .trail ≡ length (trailOf (now (self .entry))) ⌝ }
     {
         Snapshot {
-            cells: self.cells.len(),
+            cells: self.len(),
             trail: self.trail.len(),
         }
     }

@@ -49,11 +49,29 @@ impl<'a, R: Copy> Stack<'a, R> {
         ensures count { λ r. ⌜ BySome r ((count (now (self .entry)) ≡ 0) × (count (now (self .exit)) ≡ 0)) (λ x. count (now (self .entry)) ≡ count (now (self .exit)) + 1) ⌝ }
         ensures room { λ r. ⌜ room (now (self .exit)) ≡ room (now (self .entry)) ⌝ }
     {
-        if self.len == 0 {
+        if self.is_empty() {
             return None;
         }
+        Some(self.take_newest())
+    }
+
+    // The newest record, where there is one.
+    fn take_newest(&mut self) -> R
+        requires { ⌜ 0 < count (now self) ⌝ }
+        ensures held { λ x. ⌜ held (now (self .entry)) ≡ x ∷ held (now (self .exit)) ⌝ }
+        ensures count { λ x. ⌜ count (now (self .entry)) ≡ count (now (self .exit)) + 1 ⌝ }
+        ensures room { λ x. ⌜ room (now (self .exit)) ≡ room (now (self .entry)) ⌝ }
+    {
         self.len -= 1;
-        Some(self.items[self.len])
+        self.items[self.len]
+    }
+
+    // Whether nothing is on the stack.
+    pub fn is_empty(&self) -> bool
+        ensures value { λ r. ⌜ r ≡ eqb (count (now (self .entry))) 0 ⌝ }
+        ensures none { λ r. ⌜ (r ≡ true → held (now (self .entry)) ≡ []) ⌝ }
+    {
+        self.len == 0
     }
 
     pub fn top(&self) -> Option<R>

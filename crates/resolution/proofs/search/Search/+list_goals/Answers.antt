@@ -8,7 +8,7 @@ use Rattle.resolution.proofs.Rooms.{take-kept, take-whole}
 use Rattle.resolution.proofs.search.Search.+list_goals.Needs as need
 
 pub returns-then-place-len : need.returns-then-place-len
-returns-then-place-len t c = record { bindings = refl; kept = take-whole _ _ (c .args .self .now .waiting .ok .0); few = omega arith; none = λ h. refl; some = λ h. absurd (omega arith) }
+returns-then-place-len t c = record { bindings = refl; branch = (refl, refl); kept = take-whole _ _ (c .args .self .now .waiting .ok .0); few = omega arith; none = λ h. refl; some = λ h. absurd (omega arith) }
 
 pub returns : need.returns
 returns t c =
@@ -17,4 +17,4 @@ returns t c =
     let next = c .end-of-next .ensures .past (omega arith) in
     let few = c .list-goals-after .ensures .few in
     let len = c .push-reserved .ensures .len in
-    record { bindings = c .list-goals-after .ensures .bindings; kept = kept; few = omega arith; none = λ h. absurd (omega arith); some = λ h. c .len-2 .ensures }
+    record { bindings = c .list-goals-after .ensures .bindings; branch = c .list-goals-after .ensures .branch; kept = kept; few = omega arith; none = λ h. absurd (omega arith); some = λ h. c .len-2 .ensures }

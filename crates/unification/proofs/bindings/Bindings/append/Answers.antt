@@ -14,6 +14,7 @@ pub ghost-self : need.ghost-self
 ghost-self c =
     let b = c .args .self .now in let more = c .args .cells .now in let v = c .extend-from-slice .last .self in
     let cap = c .extend-from-slice .ensures .capacity in let space = b .space in let few = b .few in
+    let okc = b .cells .ok .0 in
     let room : vec-len (b .cells) + length more ≤ 1568 = omega arith in
     let ok = c .extend-from-slice .ensures .succeeds (omega arith) in
     let items = c .extend-from-slice .ensures .items ∙ cond-true _ _ _ ok in

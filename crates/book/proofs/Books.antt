@@ -49,15 +49,16 @@ books-found b p n number r h e =
     let er = b .rows .ok .0 in
     let ec = b .cells .ok .0 in
     let i : Inside (vec-len (b .cells)) r =
-      subst (Inside (vec-len (b .cells))) e (kept-each (Inside (vec-len (b .cells))) (isFor p n) (vec-items (b .rows)) (λ k d l. b .inside k d (omega arith)) number r h) in
+    subst (Inside (vec-len (b .cells))) e (kept-each (Inside (vec-len (b .cells))) (isFor p n) (vec-items (b .rows)) (λ k d l. b .inside k d (omega arith)) number r h) in
     let w : r .from + r .len ≤ length (vec-items (b .cells)) = omega (arith, i .2) in
-    record
-      { below = omega (arith, books-count b p n)
-      ; clause = getD-map (clauseOf (vec-items (b .cells))) ks number r [] h ∙ ap (clauseOf (vec-items (b .cells))) e
-      ; few = i .1
-      ; within = w
-      ; long = books-long b r w
-      ; low = books-low b r }
+    record {
+      below = omega (arith, books-count b p n);
+      clause = getD-map (clauseOf (vec-items (b .cells))) ks number r [] h ∙ ap (clauseOf (vec-items (b .cells))) e;
+      few = i .1;
+      within = w;
+      long = books-long b r w;
+      low = books-low b r;
+    }
 
 pub books-formed : (b : SealedBook) (p n k : ℕ) → k < length (bookClauses b p n) → Formed (getD (bookClauses b p n) k [])
 books-formed b p n k h =

@@ -1,9 +1,4 @@
-mod Laws
-mod Tables
-mod Counts
-mod Kept
+mod Accepting
 mod Books
-mod Variables
-mod Readings
-mod Growth
-mod Places
+mod Kept
+mod Listing

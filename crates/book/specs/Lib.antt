@@ -1,10 +1,4 @@
 pub mod Fit
-pub mod Grammar
-pub mod Spans
-pub mod Words
-pub mod Drafts
 pub mod Meaning
 pub mod Query
-pub mod Sketch
-pub mod Numbering
 pub mod Reading

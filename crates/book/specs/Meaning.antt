@@ -12,8 +12,7 @@ use Rattle.terms.specs.declared.Cell.{Cell}
 use Rattle.book.specs.declared.Row.{Row}
 use Rattle.book.specs.declared.Book.{Book}
 use Rattle.book.specs.declared.SealedBook.{SealedBook}
-use Rattle.book.specs.Spans.{bytesOf}
-use Rattle.book.specs.Words.{namesOf}
+use Rattle.names.specs.Words.{namesOf, namesFit}
 
 abbrev pub clauseOf : List Cell → Row → List Cell
 clauseOf cells r = take (r .len) (drop (r .from) cells)
@@ -52,16 +51,15 @@ pub record Taken (before after : Book) (clause : List Cell) : Type 0 where
   pub rows : vec-items (after .rows) ≡ vec-items (before .rows) ++ rowOf (vec-len (before .cells)) clause ∷ []
   pub names : after .names ≡ before .names
 
--- a book has at most 256 clauses, 2,048 cells, 256 names and 4,096 bytes of names: with a clause of n cells more, and these names
+-- a book has at most 256 clauses and 2,048 cells, and its names fit: with a clause of n cells more, and these names
 abbrev pub hasRoom : Book → ℕ → List (List ℕ) → Bool
-hasRoom b n names =
-    ltb (length (vec-items (b .rows))) 256 && (leb (length (vec-items (b .cells)) + n) 2048 && (leb (length names) 256 && leb (bytesOf names) 4096))
+hasRoom b n words = ltb (length (vec-items (b .rows))) 256 && (leb (length (vec-items (b .cells)) + n) 2048 && namesFit words)
 
--- the clause is in the book, whose names now are these
-pub record Admitted (before after : Book) (clause : List Cell) (names : List (List ℕ)) : Type 0 where
+-- the clause is in the book, whose names now are these words
+pub record Admitted (before after : Book) (clause : List Cell) (words : List (List ℕ)) : Type 0 where
   pub cells : vec-items (after .cells) ≡ vec-items (before .cells) ++ clause
   pub rows : vec-items (after .rows) ≡ vec-items (before .rows) ++ rowOf (vec-len (before .cells)) clause ∷ []
-  pub names : namesOf (after .names) ≡ names
+  pub names : namesOf (after .names) ≡ words
 
 -- the clauses of a predicate with one more, where that is for it
 abbrev pub listedWith : List Cell → ℕ → ℕ → List (List Cell)

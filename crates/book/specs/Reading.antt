@@ -11,11 +11,11 @@ use Rattle.lexis.specs.Tokens.{startAt}
 use Rattle.lexis.specs.declared.fault.Fault.{Fault}
 use Rattle.lexis.specs.declared.fault.Cause.the-variants.{Full}
 use Rattle.book.specs.declared.Book.{Book}
-use Rattle.book.specs.declared.draft.Draft.{Draft}
-use Rattle.book.specs.declared.names.Names.{Names}
-use Rattle.book.specs.Words.{namesOf}
-use Rattle.book.specs.Numbering.{numberedAll, wordsAfter}
-use Rattle.book.specs.Sketch.{Sketch, ReadsClause, QuestionRead}
+use Rattle.draft.specs.declared.Draft.{Draft}
+use Rattle.names.specs.declared.Names.{Names}
+use Rattle.names.specs.Words.{namesOf}
+use Rattle.draft.specs.Numbering.{numberedAll, wordsAfter}
+use Rattle.draft.specs.Sketch.{Sketch, ReadsClause, QuestionRead}
 use Rattle.book.specs.Meaning.{openClauses, listedWith, hasRoom}
 
 -- what was read, its names and strings numbered by the names known before
@@ -38,7 +38,7 @@ pub record Accepted (before after : Book) (text : List ℕ) (at end : ℕ) : Typ
 pub data Refused (before : Book) (text : List ℕ) (at : ℕ) : Fault → Type 0 where
   unread : {e : Fault} → ReadsClause text at (Err e) → Refused before text at e
   full : (end : ℕ) (s : Sketch) → ReadsClause text at (Ok (end, s)) → hasRoom before (length (cellsFrom text (before .names) s)) (namesFrom text (before .names) s) ≡ false
-    → Refused before text at (record { cause = Full; at = startAt text at })
+      → Refused before text at (record { cause = Full; at = startAt text at })
 
 -- the draft holds the question's cells, names that the book does not have numbered after the book's
 pub record Asked (names : Names) (text : List ℕ) (at : ℕ) (d : Draft) : Type 0 where

@@ -9,14 +9,9 @@ ghost use Rattle.book.specs.Fit.{Inside};
 use names::Names;
 use terms::Cell;
 
-pub mod draft;
-pub mod grammar;
-pub mod names;
 pub mod opened;
 pub mod question;
-pub mod reader;
 pub mod sealed;
-pub mod words;
 
 // One clause: its head's symbol and arity, and where its cells stand.
 #[derive(Clone, Copy)]

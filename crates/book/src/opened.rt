@@ -11,21 +11,21 @@ ghost use Rattle.std.specs.Results.{Cases};
 ghost use Rattle.clauses.specs.Clauses.{Low, Slim};
 ghost use Rattle.lexis.specs.declared.fault.Cause.the-variants.{Full};
 ghost use Rattle.terms.specs.declared.Cell.{Cell as CellOf};
-ghost use Rattle.book.specs.Spans.{wordsIn, bytesOf};
-ghost use Rattle.book.specs.Words.{namesOf};
+ghost use Rattle.names.specs.Spans.{wordsIn};
+ghost use Rattle.names.specs.Words.{namesOf, namesFit};
 ghost use Rattle.book.specs.Meaning.{openClauses, bookClauses, Taken, Admitted, hasRoom};
 ghost use Rattle.book.specs.Reading.{Accepted, Refused};
 use crate::Book;
 use crate::Row;
 use crate::SealedBook;
-use crate::draft::Draft;
-use crate::names::Names;
-use crate::names::Span;
+use draft::Draft;
 use lexis::fault::Cause;
 use lexis::fault::Fault;
-use terms::Cell;
+use names::Names;
+use names::Span;
 use std::alloc::AllocError;
 use std::alloc::Global;
+use terms::Cell;
 
 impl Book {
     // Memory is taken here and nowhere later.
@@ -38,14 +38,16 @@ impl Book {
         Ok(Book { names, cells, rows })
     }
 
-    // Whether a clause of so many cells has room, with the new words of a text.
+    // Whether there is room for one clause more, of so many cells, with the new words of a text.
     fn has_room(&self, cells: usize, text: &[u8], fresh: &[Span]) -> bool
         requires { ⌜ cells ≤ 32 ⌝ }
         ensures value { λ r. ⌜ r ≡ hasRoom (now (self .entry)) cells (namesOf (now (self .entry) .names) ++ wordsIn (now (text .entry)) (now (fresh .entry))) ⌝ }
-        ensures book { λ r. ⌜ (r ≡ true → (vec-len (now (self .entry) .rows) < 256) × (vec-len (now (self .entry) .cells) + cells ≤ 2048)) ⌝ }
-        ensures names { λ r. ⌜ (r ≡ true → (vec-len (now (self .entry) .names .spans) + length (now (fresh .entry)) ≤ 256) × (vec-len (now (self .entry) .names .bytes) + bytesOf (wordsIn (now (text .entry)) (now (fresh .entry))) ≤ 4096)) ⌝ }
+        ensures room { λ r. ⌜ (r ≡ true → (vec-len (now (self .entry) .rows) < 256) × (vec-len (now (self .entry) .cells) + cells ≤ 2048)) ⌝ }
+        ensures names { λ r. ⌜ (r ≡ true → namesFit (namesOf (now (self .entry) .names) ++ wordsIn (now (text .entry)) (now (fresh .entry))) ≡ true) ⌝ }
     {
-        self.rows.len() < 256 && self.cells.len() + cells <= 2048 && self.names.have_room(text, fresh)
+        self.rows.len() < 256
+            && self.cells.len() + cells <= 2048
+            && self.names.have_room(text, fresh)
     }
 
     // One clause more, for which there is room.
@@ -60,8 +62,15 @@ impl Book {
     {
         let from = self.cells.len();
         let head = clause[0];
-        let Ok(()) = self.cells.extend_from_slice(clause) else { unreachable() };
-        self.rows.push_reserved(Row { symbol: head.value, arity: head.arity, from, len: clause.len() });
+        let Ok(()) = self.cells.extend_from_slice(clause) else {
+            unreachable()
+        };
+        self.rows.push_reserved(Row {
+            symbol: head.value,
+            arity: head.arity,
+            from,
+            len: clause.len(),
+        });
     }
 
     // Takes the draft's clause in, with its new names, or tells that the book is full and is as it was.
@@ -69,11 +78,14 @@ impl Book {
         requires { ⌜ 0 < length (vec-items (now draft .cells)) ⌝ }
         ensures { λ r. ⌜ Cases r (λ _. (hasRoom (now (self .entry)) (length (vec-items (now (draft .entry) .cells))) (namesOf (now (self .entry) .names) ++ wordsIn (now (text .entry)) (vec-items (now (draft .entry) .fresh))) ≡ true) × Admitted (now (self .entry)) (now (self .exit)) (vec-items (now (draft .entry) .cells)) (namesOf (now (self .entry) .names) ++ wordsIn (now (text .entry)) (vec-items (now (draft .entry) .fresh)))) (λ e. (hasRoom (now (self .entry)) (length (vec-items (now (draft .entry) .cells))) (namesOf (now (self .entry) .names) ++ wordsIn (now (text .entry)) (vec-items (now (draft .entry) .fresh))) ≡ false) × (e ≡ record { cause = Full; at = now (draft .entry) .start }) × (now (self .exit) ≡ now (self .entry))) ⌝ }
     {
-        if !self.has_room(draft.cells.len(), text, draft.fresh.as_slice()) {
-            return Err(Fault { cause: Cause::Full, at: draft.start });
+        if !self.has_room(draft.cells().len(), text, draft.fresh()) {
+            return Err(Fault {
+                cause: Cause::Full,
+                at: draft.start(),
+            });
         }
-        self.add(draft.cells.as_slice());
-        self.names.add_all(text, draft.fresh.as_slice());
+        self.add(draft.cells());
+        let _ = self.names.take_in(text, draft.fresh());
         Ok(())
     }
 

@@ -9,10 +9,10 @@ ghost use Rattle.book.specs.Meaning.{bookClauses, isFor, Found};
 ghost use Rattle.book.specs.declared.Row.{Row as RowOf};
 use crate::Row;
 use crate::SealedBook;
-use terms::Cell;
 use clauses::Refusal;
 use clauses::Source;
 use clauses::rename;
+use terms::Cell;
 
 fn matches(r: Row, symbol: u32, arity: u8) -> bool
     ensures { λ b. ⌜ b ≡ isFor symbol arity r ⌝ }
@@ -64,11 +64,21 @@ pub impl Source for SealedBook as SealedBookSource {
         how_many(self.rows.as_slice(), symbol, arity)
     }
 
-    fn write(&self, symbol: u32, arity: u8, number: usize, base: u32, out: &mut [Cell], at: usize) -> Result<usize, Refusal> {
+    fn write(
+        &self,
+        symbol: u32,
+        arity: u8,
+        number: usize,
+        base: u32,
+        out: &mut [Cell],
+        at: usize,
+    ) -> Result<usize, Refusal> {
         if base > 1056 {
             return Err(Refusal::ClauseNumber);
         }
-        let Some(row) = self.row(symbol, arity, number) else { return Err(Refusal::ClauseNumber); };
+        let Some(row) = self.row(symbol, arity, number) else {
+            return Err(Refusal::ClauseNumber);
+        };
         let n = row.len;
         if at > out.len() || out.len() - at < n {
             return Err(Refusal::OutputShort);

@@ -104,7 +104,9 @@ fn decode(out: &mut Vec<u8>, case: &[u8]) -> Result<(), AllocError> {
     while let Some(start) = find_mark(case, at, b'{') {
         unescape(out, &case[at..start], 0)?;
         let body = start + 2;
-        let Some(end) = find_mark(case, body, b'}') else { return Ok(()); };
+        let Some(end) = find_mark(case, body, b'}') else {
+            return Ok(());
+        };
         repeat(out, &case[body..end])?;
         at = end + 2;
     }

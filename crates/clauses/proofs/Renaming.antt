@@ -30,9 +30,9 @@ renamed-more b i cs out d h l =
     let n : length (renamed b (take i cs)) ≡ i = length-renamed b (take i cs) ∙ length-take-le i cs (omega arith) in
     let v = raised b (getD cs i d) in
     let a : set (renamed b (take i cs) ++ drop i out) i v ≡ renamed b (take i cs) ++ v ∷ drop (i + 1) out =
-      ap (λ ys. set (renamed b (take i cs) ++ ys) i v) (drop-more out i d k) ∙ set-at (renamed b (take i cs)) (getD out i d) (drop (i + 1) out) v i n in
+    ap (λ ys. set (renamed b (take i cs) ++ ys) i v) (drop-more out i d k) ∙ set-at (renamed b (take i cs)) (getD out i d) (drop (i + 1) out) v i n in
     let m : renamed b (take (i + 1) cs) ≡ renamed b (take i cs) ++ v ∷ [] =
-      ap (renamed b) (take-more cs i d h) ∙ map-append (raised b) (take i cs) (getD cs i d ∷ []) in
+    ap (renamed b) (take-more cs i d h) ∙ map-append (raised b) (take i cs) (getD cs i d ∷ []) in
     a ∙ sym (ap (λ ys. ys ++ drop (i + 1) out) m ∙ append-assoc (renamed b (take i cs)) (v ∷ []) (drop (i + 1) out))
 
 pub renamed-none : (b : ℕ) (cs out : List Cell) → out ≡ renamed b (take 0 cs) ++ drop 0 out
@@ -49,6 +49,6 @@ unfolding spliced
 tail-spliced at n xs ys zs h l e =
     let none : drop (length xs - at) (drop at xs) ≡ [] = drop-all (length xs - at) (drop at xs) (simp length-drop (omega arith)) in
     let rest : drop n (take (length xs - at) (drop at xs)) ≡ drop (at + length ys) xs =
-      ap (drop n) (take-rest xs at) ∙ (drop-drop n at xs ∙ ap (λ k. drop (at + k) xs) (sym l)) in
+    ap (drop n) (take-rest xs at) ∙ (drop-drop n at xs ∙ ap (λ k. drop (at + k) xs) (sym l)) in
     ap (λ t. take at xs ++ t)
     (ap (λ t. zs ++ t) none ∙ (append-nil zs ∙ (e ∙ ap (λ t. ys ++ t) rest)))

@@ -29,6 +29,14 @@ pub trait Source {
         ensures { λ r. ⌜ r ≡ length (clauses (now (self .entry)) symbol arity) ⌝ };
 
     // Writes a clause, each variable raised by the base, into the slice from a place on, and tells how many cells that took.
-    fn write(&self, symbol: u32, arity: u8, number: usize, base: u32, out: &mut [Cell], at: usize) -> Result<usize, Refusal>
+    fn write(
+        &self,
+        symbol: u32,
+        arity: u8,
+        number: usize,
+        base: u32,
+        out: &mut [Cell],
+        at: usize,
+    ) -> Result<usize, Refusal>
         ensures { λ r. ⌜ Wrote (clauses (now (self .entry)) symbol arity) number base at (now (out .entry)) (now (out .exit)) r ⌝ };
 }

@@ -12,7 +12,12 @@ fn raise(c: Cell, base: u32) -> Cell
     ensures { λ r. ⌜ r ≡ raised base c ⌝ }
 {
     if c.tag == 0 {
-        Cell { tag: c.tag, form: c.form, arity: c.arity, value: c.value + base }
+        Cell {
+            tag: c.tag,
+            form: c.form,
+            arity: c.arity,
+            value: c.value + base,
+        }
     } else {
         c
     }

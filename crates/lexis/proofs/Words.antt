@@ -19,18 +19,21 @@ take-past n s xs h = ap (take n) (drop-all s xs h) ∙ take-all n [] (omega arit
 pub word-within : (text : List ℕ) (start end s e : ℕ) → e ≡ min end (length text) → s ≡ min start e → take (e - s) (drop s text) ≡ wordOf text start end
 unfolding wordOf
 word-within text start end s e he hs =
-    elim (cases-lt end start)
-      [ inl a ↦ take-zero (e - s) (drop s text) (omega arith) ∙ sym (take-zero (end - start) (drop start text) (omega arith))
-      | inr a ↦ elim (cases-lt start (length text))
-          [ inl b ↦
+    elim (cases-lt end start) [
+      | inl a ↦ take-zero (e - s) (drop s text) (omega arith) ∙ sym (take-zero (end - start) (drop start text) (omega arith))
+      | inr a ↦ elim (cases-lt start (length text)) [
+        | inl b ↦
             let es : s ≡ start = omega arith in
             ap (λ i. take (e - i) (drop i text)) es
-            ∙ elim (cases-lt (length text) end)
-                [ inl d ↦
+            ∙ elim (cases-lt (length text) end) [
+              | inl d ↦
                   let l : length (drop start text) ≡ length text - start = length-drop start text in
                   take-all (e - start) (drop start text) (omega arith) ∙ sym (take-all (end - start) (drop start text) (omega arith))
-                | inr d ↦ ap (λ i. take (i - start) (drop start text)) (omega arith) ]
-          | inr b ↦ take-zero (e - s) (drop s text) (omega arith) ∙ sym (take-past (end - start) start text b) ] ]
+              | inr d ↦ ap (λ i. take (i - start) (drop start text)) (omega arith)
+            ]
+        | inr b ↦ take-zero (e - s) (drop s text) (omega arith) ∙ sym (take-past (end - start) start text b)
+      ]
+    ]
 
 pub decimal-none : decimal [] ≡ 0
 unfolding decimal

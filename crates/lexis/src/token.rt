@@ -103,7 +103,10 @@ fn number(text: &[u8], start: usize) -> (Kind, usize)
     ensures value { λ r. ⌜ r ≡ numberAt (now (text .entry)) start ⌝ }
     ensures bounds { λ r. ⌜ (start < r .1) × (r .1 ≤ length (now (text .entry))) ⌝ }
 {
-    if byte_at(text, start) == 48 && byte_at(text, start + 1) == 102 && run_end(text, start + 2, Run::Hex) >= start + 10 {
+    if byte_at(text, start) == 48
+        && byte_at(text, start + 1) == 102
+        && run_end(text, start + 2, Run::Hex) >= start + 10
+    {
         return (Kind::Float, start + 10);
     }
     (Kind::Integer, run_end(text, start + 1, Run::Digit))
@@ -116,7 +119,11 @@ fn quoted(text: &[u8], start: usize) -> Option<(Kind, usize)>
     ensures bounds { λ r. ⌜ Ends start (length (now (text .entry))) r ⌝ }
 {
     let end = run_end(text, start + 1, Run::Quoted);
-    if byte_at(text, end) == 34 { Some((Kind::Text, end + 1)) } else { None }
+    if byte_at(text, end) == 34 {
+        Some((Kind::Text, end + 1))
+    } else {
+        None
+    }
 }
 
 // Digits directly after a minus sign.
@@ -126,7 +133,11 @@ fn negative(text: &[u8], start: usize) -> Option<(Kind, usize)>
     ensures bounds { λ r. ⌜ Ends start (length (now (text .entry))) r ⌝ }
 {
     let end = run_end(text, start + 1, Run::Digit);
-    if end > start + 1 { Some((Kind::Integer, end)) } else { None }
+    if end > start + 1 {
+        Some((Kind::Integer, end))
+    } else {
+        None
+    }
 }
 
 // A mark that is a token only with a `-` behind it.
@@ -135,7 +146,11 @@ fn arrow(text: &[u8], start: usize, kind: Kind) -> Option<(Kind, usize)>
     ensures value { λ r. ⌜ r ≡ arrowAt (now (text .entry)) start kind ⌝ }
     ensures bounds { λ r. ⌜ Ends start (length (now (text .entry))) r ⌝ }
 {
-    if byte_at(text, start + 1) == 45 { Some((kind, start + 2)) } else { None }
+    if byte_at(text, start + 1) == 45 {
+        Some((kind, start + 2))
+    } else {
+        None
+    }
 }
 
 fn mark(text: &[u8], start: usize) -> Option<(Kind, usize)>
@@ -186,10 +201,17 @@ pub fn next_token(text: &[u8], at: usize) -> Result<Token, Fault>
 {
     let start = skip_blanks(text, at);
     if start == text.len() {
-        return Ok(Token { kind: Kind::End, start, end: start });
+        return Ok(Token {
+            kind: Kind::End,
+            start,
+            end: start,
+        });
     }
     match shape(text, start) {
         Some((kind, end)) => Ok(Token { kind, start, end }),
-        None => Err(Fault { cause: Cause::Grammar, at: start }),
+        None => Err(Fault {
+            cause: Cause::Grammar,
+            at: start,
+        }),
     }
 }

@@ -40,21 +40,33 @@ fn below_zero(digits: &[u8]) -> Option<u32>
     ensures { λ r. ⌜ r ≡ negated (decimal (now (digits .entry))) ⌝ }
 {
     let n = magnitude(digits);
-    if n > 2147483648 { None } else { Some(((4294967296 - n) % 4294967296) as u32) }
+    if n > 2147483648 {
+        None
+    } else {
+        Some(((4294967296 - n) % 4294967296) as u32)
+    }
 }
 
 // An integer's bits in two's complement, or none where it is outside the 32-bit signed range.
 fn integer(word: &[u8]) -> Option<u32>
     ensures { λ r. ⌜ r ≡ integerOf (now (word .entry)) ⌝ }
 {
-    if word.len() > 0 && word[0] == 45 { below_zero(&word[1..]) } else { above_zero(word) }
+    if word.len() > 0 && word[0] == 45 {
+        below_zero(&word[1..])
+    } else {
+        above_zero(word)
+    }
 }
 
 fn hex(b: u8) -> u32
     ensures value { λ r. ⌜ r ≡ hexOf b ⌝ }
     ensures bound { λ r. ⌜ r ≤ 15 ⌝ }
 {
-    let d = if b <= 57 { b.saturating_sub(48) } else { b.saturating_sub(87) };
+    let d = if b <= 57 {
+        b.saturating_sub(48)
+    } else {
+        b.saturating_sub(87)
+    };
     d.min(15) as u32
 }
 
@@ -63,7 +75,10 @@ fn hex_at(word: &[u8], at: usize) -> u32
     ensures value { λ r. ⌜ r ≡ hexAt (now (word .entry)) at ⌝ }
     ensures bound { λ r. ⌜ r ≤ 65535 ⌝ }
 {
-    hex(byte_at(word, at)) * 4096 + hex(byte_at(word, at + 1)) * 256 + hex(byte_at(word, at + 2)) * 16 + hex(byte_at(word, at + 3))
+    hex(byte_at(word, at)) * 4096
+        + hex(byte_at(word, at + 1)) * 256
+        + hex(byte_at(word, at + 2)) * 16
+        + hex(byte_at(word, at + 3))
 }
 
 fn float(word: &[u8]) -> u32
@@ -90,6 +105,9 @@ pub fn worth(text: &[u8], token: Token) -> Result<u32, Fault>
 {
     match value(token.kind, word(text, token.start, token.end)) {
         Some(v) => Ok(v),
-        None => Err(Fault { cause: Cause::Size, at: token.start }),
+        None => Err(Fault {
+            cause: Cause::Size,
+            at: token.start,
+        }),
     }
 }

@@ -8,9 +8,9 @@ use lib.Chars.{codes}
 use Rattle.std.specs.Written.{decimal}
 use Rattle.lexis.specs.declared.fault.Fault.{Fault}
 use Rattle.lexis.specs.Faults as fault
-use Rattle.resolution.specs.declared.Verdict.{Verdict}
-use Rattle.resolution.specs.declared.Verdict.the-variants.{Holds, Fails, Erroneous, Unsettled}
-use Rattle.resolution.specs.Numbers as refusal
+use Rattle.verdicts.specs.declared.Verdict.{Verdict}
+use Rattle.verdicts.specs.declared.Verdict.the-variants.{Holds, Fails, Erroneous, Unsettled}
+use Rattle.verdicts.specs.Numbers as refusal
 use Rattle.line.specs.declared.Reply.{Reply}
 use Rattle.line.specs.declared.Reply.the-variants.{Answered, Faulty, Refused}
 

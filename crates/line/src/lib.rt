@@ -9,27 +9,29 @@ ghost use Rattle.line.specs.Printed.{printed, wordOf, tooLong, Told};
 ghost use Rattle.std.specs.declared.result.Result.the-variants.{Ok, Err};
 use book::Book;
 use book::SealedBook;
-use book::draft::Draft;
 use book::question::question_at;
 use book::sealed::SealedBookSource;
+use draft::Draft;
 use lexis::fault::Cause;
 use lexis::fault::Fault;
-use resolution::Answer;
-use resolution::Refusal;
-use resolution::Verdict;
 use resolution::frame::Frame;
 use resolution::search::Search;
-use resolution::settings::Settings;
 use std::alloc::AllocError;
 use std::alloc::Global;
 use terms::Cell;
 use terms::signature::ByForm;
 use terms::signature::FormSignature;
 use unification::Pair;
+use verdicts::Answer;
+use verdicts::Refusal;
+use verdicts::Verdict;
+use verdicts::settings::Settings;
 
 // At most so many bytes are read, and the tree is cut at the limit and refused past the allowance.
 pub const MOST_BYTES: usize = 8192;
+
 const LIMIT: u8 = 32;
+
 const ALLOWANCE: u32 = 100000;
 
 // What comes of a text: an answer to its question; a fault at a place of the text; or a refusal of the question.
@@ -56,7 +58,10 @@ fn read_text(mut book: Book, draft: &mut Draft, text: &[u8]) -> Result<SealedBoo
     ensures { λ r. ⌜ (8192 < length (now (text .entry)) → r ≡ Err tooLong) ⌝ }
 {
     if text.len() > MOST_BYTES {
-        return Err(Fault { cause: Cause::Full, at: MOST_BYTES });
+        return Err(Fault {
+            cause: Cause::Full,
+            at: MOST_BYTES,
+        });
     }
     let place = read_clauses(&mut book, draft, text)?;
     let sealed = book.seal();
@@ -65,7 +70,11 @@ fn read_text(mut book: Book, draft: &mut Draft, text: &[u8]) -> Result<SealedBoo
 }
 
 // Asks a book, with kinds by form.
-fn ask(heap: Global, book: &SealedBook, question: &[Cell]) -> Result<Result<Answer, Refusal>, AllocError> {
+fn ask(
+    heap: Global,
+    book: &SealedBook,
+    question: &[Cell],
+) -> Result<Result<Answer, Refusal>, AllocError> {
     let mut search = Search::new(heap)?;
     let mut pairs = Vec::from_elem(heap, Pair { left: 0, right: 0 }, 12864)?;
     let mut frames = Vec::from_elem(heap, Frame::blank(), 512)?;
@@ -74,7 +83,15 @@ fn ask(heap: Global, book: &SealedBook, question: &[Cell]) -> Result<Result<Answ
         Ok(settings) => settings,
         Err(refusal) => return Ok(Err(refusal)),
     };
-    Ok(search.ask(book, &ByForm, settings, question, pairs.as_mut_slice(), frames.as_mut_slice(), &mut path))
+    Ok(search.ask(
+        book,
+        &ByForm,
+        settings,
+        question,
+        pairs.as_mut_slice(),
+        frames.as_mut_slice(),
+        &mut path,
+    ))
 }
 
 // What comes of a text, or that there was no memory for it.

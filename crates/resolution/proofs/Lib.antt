@@ -1,4 +1,3 @@
 pub mod Rooms
-pub mod Branches
 pub mod Loading
 pub mod Questions

@@ -16,7 +16,7 @@ use Rattle.terms.specs.Shape.{termCell, goalCell, goals, lowCell, allLow}
 use Rattle.graphs.specs.Cells.{fits, allFit}
 use Rattle.unification.specs.State.{takes}
 use Rattle.resolution.specs.Asked.{judged, judgedList, Sized}
-use Rattle.resolution.specs.declared.Refusal.the-variants.{ScratchShort, TooLarge, PathShort}
+use Rattle.verdicts.specs.declared.Refusal.the-variants.{ScratchShort, TooLarge, PathShort}
 use Rattle.resolution.proofs.Loading.{and-true}
 
 false-true : {P : Type 0} → false ≡ true → P
@@ -112,7 +112,7 @@ judged-none question pairs frames path e =
     go (goals 0 0 question) (allLow question) refl refl (u .1) (ltb-false pairs 12864 (s .0)) (ltb-false frames 512 (s .1))
   where
     go : (o : Option ℕ) (low : Bool) → goals 0 0 question ≡ o → allLow question ≡ low → judgedList o low (length question) path ≡ None → 12864 ≤ pairs → 512 ≤ frames
-       → Sized question pairs frames × (32 ≤ path)
+        → Sized question pairs frames × (32 ≤ path)
     go None low g l h wide deep = absurd (let z : _≡_ {A = ℕ} 0 1 = cc in omega arith)
     go (Some n) false g l h wide deep = absurd (let z : _≡_ {A = ℕ} 0 1 = cc in omega arith)
     go (Some n) true g l h wide deep =

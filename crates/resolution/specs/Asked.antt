@@ -12,11 +12,11 @@ use Rattle.std.specs.declared.result.Result.{Result}
 use Rattle.std.specs.declared.result.Result.the-variants.{Ok, Err}
 use Rattle.terms.specs.declared.Cell.{Cell}
 use Rattle.terms.specs.Shape.{goals, allLow}
-use Rattle.resolution.specs.declared.Refusal.{Refusal}
-use Rattle.resolution.specs.declared.Refusal.the-variants.{NoGoalList, TooLarge, Allowance, ScratchShort, PathShort}
-use Rattle.resolution.specs.declared.Answer.{Answer}
-use Rattle.resolution.specs.declared.Verdict.{Verdict}
-use Rattle.resolution.specs.declared.Verdict.the-variants.{Holds, Fails, Erroneous, Unsettled}
+use Rattle.verdicts.specs.declared.Refusal.{Refusal}
+use Rattle.verdicts.specs.declared.Refusal.the-variants.{NoGoalList, TooLarge, Allowance, ScratchShort, PathShort}
+use Rattle.verdicts.specs.declared.Answer.{Answer}
+use Rattle.verdicts.specs.declared.Verdict.{Verdict}
+use Rattle.verdicts.specs.declared.Verdict.the-variants.{Holds, Fails, Erroneous, Unsettled}
 
 -- over 32 cells, over 8 goals; then a path slice below 32
 abbrev pub judgedSize : ℕ → ℕ → ℕ → Option Refusal

@@ -1,4 +1,2 @@
-pub mod Numbers
-pub mod Leaves
 pub mod Frames
 pub mod Asked

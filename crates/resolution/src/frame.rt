@@ -32,6 +32,15 @@ impl Frame {
     pub fn blank() -> Frame
         ensures { λ r. ⌜ (r .node .flag ≡ false) × (r .node .goals ≡ 0) × (r .node .step ≡ 0) × (r .clause ≡ 0) × (r .bindings .cells ≡ 0) × (r .bindings .trail ≡ 0) × (r .waiting ≡ 0) ⌝ }
     {
-        Frame { node: Node { flag: false, goals: 0, step: 0 }, clause: 0, bindings: Snapshot::start(), waiting: 0 }
+        Frame {
+            node: Node {
+                flag: false,
+                goals: 0,
+                step: 0,
+            },
+            clause: 0,
+            bindings: Snapshot::start(),
+            waiting: 0,
+        }
     }
 }

@@ -30,7 +30,7 @@ skip-more (suc m) n [] mid e = absurd (some-not-none mid (sym e))
 skip-more (suc m) n (c ∷ cs) mid e =
     ap (λ k. skip k (c ∷ cs)) (suc-add m n)
     ∙ on-some (termCell c) (skip (c .arity + m) cs) (skip (c .arity + (m + n)) cs) (skip n mid) mid
-      (λ h. ap (λ k. skip k cs) (sym (add-assoc (c .arity) m n)) ∙ skip-more (c .arity + m) n cs mid h) e
+    (λ h. ap (λ k. skip k cs) (sym (add-assoc (c .arity) m n)) ∙ skip-more (c .arity + m) n cs mid h) e
 
 pub skip-none : (m n : ℕ) (cs : List Cell) → skip m cs ≡ None → skip (m + n) cs ≡ None
 skip-none zero n cs e = absurd (some-not-none cs e)
@@ -38,7 +38,7 @@ skip-none (suc m) n [] e = ap (λ k. skip k []) (suc-add m n)
 skip-none (suc m) n (c ∷ cs) e =
     ap (λ k. skip k (c ∷ cs)) (suc-add m n)
     ∙ on-none (termCell c) (skip (c .arity + m) cs) (skip (c .arity + (m + n)) cs)
-      (λ h. ap (λ k. skip k cs) (sym (add-assoc (c .arity) m n)) ∙ skip-none (c .arity + m) n cs h) e
+    (λ h. ap (λ k. skip k cs) (sym (add-assoc (c .arity) m n)) ∙ skip-none (c .arity + m) n cs h) e
 
 pub skip-past : (at : ℕ) (cs : List Cell) → length cs ≤ at → skip 1 (drop at cs) ≡ None
 skip-past at cs h = at-drop-all (skip 1) cs at h
@@ -72,7 +72,6 @@ skip-short (suc n) (c ∷ cs) h = step (termCell c) (skip-short (c .arity + n) c
     step true e = e
     step false e = refl
 
-
 -- The number of goals.
 
 -- some terms are read first
@@ -82,7 +81,7 @@ goals-more k (suc m) n [] mid e = absurd (some-not-none mid (sym e))
 goals-more k (suc m) n (c ∷ cs) mid e =
     ap (λ j. goals k j (c ∷ cs)) (suc-add m n)
     ∙ on-count (termCell c) (skip (c .arity + m) cs) (goals k (c .arity + (m + n)) cs) (goals k n mid) mid
-      (λ h. ap (λ j. goals k j cs) (sym (add-assoc (c .arity) m n)) ∙ goals-more k (c .arity + m) n cs mid h) e
+    (λ h. ap (λ j. goals k j cs) (sym (add-assoc (c .arity) m n)) ∙ goals-more k (c .arity + m) n cs mid h) e
   where
     on-count : (b : Bool) (x : Option (List Cell)) (y z : Option ℕ) (m : List Cell) → (x ≡ Some m → y ≡ z) → cond b x None ≡ Some m → cond b y None ≡ z
     on-count true x y z m f e = f e
@@ -94,7 +93,7 @@ goals-none k (suc m) n [] e = ap (λ j. goals k j []) (suc-add m n)
 goals-none k (suc m) n (c ∷ cs) e =
     ap (λ j. goals k j (c ∷ cs)) (suc-add m n)
     ∙ on-none-count (termCell c) (skip (c .arity + m) cs) (goals k (c .arity + (m + n)) cs)
-      (λ h. ap (λ j. goals k j cs) (sym (add-assoc (c .arity) m n)) ∙ goals-none k (c .arity + m) n cs h) e
+    (λ h. ap (λ j. goals k j cs) (sym (add-assoc (c .arity) m n)) ∙ goals-none k (c .arity + m) n cs h) e
   where
     on-none-count : (b : Bool) (x : Option (List Cell)) (y : Option ℕ) → (x ≡ None → y ≡ None) → cond b x None ≡ None → cond b y None ≡ None
     on-none-count true x y f e = f e

@@ -102,7 +102,11 @@ fn goals_by_cells(cells: &[Cell]) -> Option<usize>
 pub fn goal_count(cells: &[Cell]) -> Option<usize>
     ensures { λ r. ⌜ r ≡ goals 0 0 (now (cells .entry)) ⌝ }
 {
-    if cells.len() <= FEW { goals_by_parts(cells) } else { goals_by_cells(cells) }
+    if cells.len() <= FEW {
+        goals_by_parts(cells)
+    } else {
+        goals_by_cells(cells)
+    }
 }
 
 // A variable's number is at most 31; other cells are as they may be.

@@ -25,7 +25,12 @@ impl Search {
         let waiting = Vec::with_capacity(heap, MOST_WAITING)?;
         let trodden = Vec::from_elem(heap, 0, 32)?;
         let best = Vec::from_elem(heap, 0, 32)?;
-        Ok(Search { bindings, waiting, trodden, best })
+        Ok(Search {
+            bindings,
+            waiting,
+            trodden,
+            best,
+        })
     }
 
     // The first goal of a list, by its place, and the list of those after it.
@@ -53,7 +58,10 @@ impl Search {
         }
         let next = self.bindings.end_of(place);
         let after = self.list_goals(next, rest);
-        self.waiting.push_reserved(Waiting { goal: place, rest: after });
+        self.waiting.push_reserved(Waiting {
+            goal: place,
+            rest: after,
+        });
         self.waiting.len()
     }
 }

@@ -7,7 +7,7 @@ ghost use lib.ListN.{length, getD, take};
 ghost use Rattle.unification.specs.State.{cellsOf};
 ghost use Rattle.std.specs.Of.Vec.{vec-len, vec-items};
 ghost use Rattle.std.specs.Options.{Cases as BySome};
-ghost use Rattle.resolution.specs.Leaves.{flagAfter};
+ghost use Rattle.verdicts.specs.Leaves.{flagAfter};
 ghost use Rattle.resolution.specs.Frames.{cellsAt, waitingAt, Roomy, listAt, Fetched, troddenAfter};
 use super::Search;
 use crate::frame::Frame;
@@ -20,28 +20,56 @@ use unification::Bindings;
 use unification::Outcome;
 use unification::Pair;
 
-const BLANK: Cell = Cell { tag: 0, form: 0, arity: 0, value: 0 };
+const BLANK: Cell = Cell {
+    tag: 0,
+    form: 0,
+    arity: 0,
+    value: 0,
+};
 
 // Writes a clause of a predicate after the cells, its variables numbered from 32 + 32 · step on, as no other step's are: the place of its head.
 // None, and nothing changes, where the predicate has no clause of that number.
-fn fetch<P: Source>(source: &P, bindings: &mut Bindings, predicate: Cell, clause: usize, step: u8) -> Option<usize>
+fn fetch<P: Source>(
+    source: &P,
+    bindings: &mut Bindings,
+    predicate: Cell,
+    clause: usize,
+    step: u8,
+) -> Option<usize>
     requires early { ⌜ step < 32 ⌝ }
     requires roomy { ⌜ length (cellsOf (now bindings)) ≤ cellsAt step ⌝ }
     ensures { λ r. ⌜ Fetched (P·Source .clauses (now (source .entry)) (predicate .value) (predicate .arity)) clause step (cellsOf (now (bindings .entry))) (cellsOf (now (bindings .exit))) r ⌝ }
 {
     let mut buffer = [BLANK; 32];
     let base = 32 + 32 * step as u32;
-    let Ok(n) = source.write(predicate.value, predicate.arity, clause, base, &mut buffer, 0) else { return None; };
+    let Ok(n) = source.write(
+        predicate.value,
+        predicate.arity,
+        clause,
+        base,
+        &mut buffer,
+        0,
+    ) else {
+        return None;
+    };
     bindings.append(&buffer[0..n])
 }
 
 // The same for the predicate of the goal at a place.
-pub(super) fn load<P: Source>(source: &P, bindings: &mut Bindings, goal: usize, clause: usize, step: u8) -> Option<usize>
+pub(super) fn load<P: Source>(
+    source: &P,
+    bindings: &mut Bindings,
+    goal: usize,
+    clause: usize,
+    step: u8,
+) -> Option<usize>
     requires early { ⌜ step < 32 ⌝ }
     requires roomy { ⌜ length (cellsOf (now bindings)) ≤ cellsAt step ⌝ }
     ensures { λ r. ⌜ Fetched (listAt (P·Source .clauses (now (source .entry))) (cellsOf (now (bindings .entry))) goal) clause step (cellsOf (now (bindings .entry))) (cellsOf (now (bindings .exit))) r ⌝ }
 {
-    let Some(predicate) = bindings.cell(goal) else { return None; };
+    let Some(predicate) = bindings.cell(goal) else {
+        return None;
+    };
     fetch(source, bindings, predicate, clause, step)
 }
 
@@ -58,7 +86,14 @@ impl Search {
 
     // The node after a step from a goal, and the step's outcome. With a clause, whose head stands at a place, solved puts the body before the other goals
     // and keeps the new equations; otherwise the goal is dropped, the old equations stand, and the flag is false. A goal without clauses is dropped too.
-    pub(super) fn resolve<K: Signature>(&mut self, kinds: &K, pairs: &mut [Pair], frame: Frame, goal: Waiting, head: Option<usize>) -> (Node, Outcome)
+    pub(super) fn resolve<K: Signature>(
+        &mut self,
+        kinds: &K,
+        pairs: &mut [Pair],
+        frame: Frame,
+        goal: Waiting,
+        head: Option<usize>,
+    ) -> (Node, Outcome)
         requires scratch { ⌜ 12864 ≤ length (now pairs) ⌝ }
         requires roomy { ⌜ Roomy frame ⌝ }
         requires clause { ⌜ BySome head (Unit {0}) (λ h. (frame .clause < 65535) × (length (cellsOf (now self .bindings)) ≤ h + 32)) ⌝ }
@@ -72,18 +107,43 @@ impl Search {
         ensures waiting { λ _. ⌜ vec-len (now (self .exit) .waiting) ≤ waitingAt (frame .node .step + 1) ⌝ }
     {
         let step = frame.node.step + 1;
-        let Some(head) = head else { return (Node { flag: false, goals: goal.rest, step }, Outcome::False); };
-        let Some(outcome) = self.bindings.unify(kinds, goal.goal, head, pairs) else { unreachable() };
+        let Some(head) = head else {
+            return (
+                Node {
+                    flag: false,
+                    goals: goal.rest,
+                    step,
+                },
+                Outcome::False,
+            );
+        };
+        let Some(outcome) = self.bindings.unify(kinds, goal.goal, head, pairs) else {
+            unreachable()
+        };
         self.trodden[frame.node.step as usize] = frame.clause as u16;
         match outcome {
             Outcome::Solved => {
                 let body = self.bindings.end_of(head);
                 let goals = self.list_goals(body, goal.rest);
-                (Node { flag: frame.node.flag, goals, step }, outcome)
+                (
+                    Node {
+                        flag: frame.node.flag,
+                        goals,
+                        step,
+                    },
+                    outcome,
+                )
             }
             _ => {
                 self.bindings.roll_back(frame.bindings);
-                (Node { flag: false, goals: goal.rest, step }, outcome)
+                (
+                    Node {
+                        flag: false,
+                        goals: goal.rest,
+                        step,
+                    },
+                    outcome,
+                )
             }
         }
     }

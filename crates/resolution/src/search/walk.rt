@@ -9,23 +9,23 @@ ghost use Rattle.unification.specs.State.{cellsOf};
 ghost use Rattle.std.specs.Of.Vec.{vec-len, vec-items};
 ghost use Rattle.std.specs.Results.{Cases};
 ghost use Rattle.unification.specs.Held.{held, room, count};
-ghost use Rattle.resolution.specs.Leaves.{stateOf, endingOf, noted, shorter, Few};
+ghost use Rattle.verdicts.specs.Leaves.{stateOf, endingOf, noted, shorter, Few};
 ghost use Rattle.resolution.specs.Frames.{cellsAt, waitingAt, Roomy, Rising, turns};
 use super::Search;
 use super::step;
-use crate::Refusal;
-use crate::ending;
-use crate::ending::Ending;
-use crate::ending::Leaves;
-use crate::ending::Tally;
 use crate::frame::Frame;
 use crate::frame::Node;
-use crate::settings::Settings;
 use clauses::Source;
 use terms::signature::Signature;
 use unification::Outcome;
 use unification::Pair;
 use unification::stack::Stack;
+use verdicts::Refusal;
+use verdicts::ending;
+use verdicts::ending::Ending;
+use verdicts::ending::Leaves;
+use verdicts::ending::Tally;
+use verdicts::settings::Settings;
 
 impl Search {
     // Keeps the branch as the path of the shortest success, where it is shorter than any before it.
@@ -35,12 +35,21 @@ impl Search {
         ensures best { λ _. ⌜ vec-items (now (self .exit) .best) ≡ cond (shorter (leaves .uses) step) (vec-items (now (self .entry) .trodden)) (vec-items (now (self .entry) .best)) ⌝ }
     {
         if ending::is_shorter(leaves, step) {
-            self.best.as_mut_slice().copy_from_slice(self.trodden.as_slice());
+            self.best
+                .as_mut_slice()
+                .copy_from_slice(self.trodden.as_slice());
         }
     }
 
     // What becomes of a node that was reached by a step of this outcome: a leaf, which is noted, or a frame for its leftmost goal.
-    pub(super) fn arrive(&mut self, settings: Settings, frames: &mut Stack<'_, Frame>, node: Node, outcome: Outcome, tally: Tally) -> Tally
+    pub(super) fn arrive(
+        &mut self,
+        settings: Settings,
+        frames: &mut Stack<'_, Frame>,
+        node: Node,
+        outcome: Outcome,
+        tally: Tally,
+    ) -> Tally
         requires rising { ⌜ Rising (held (now frames)) ⌝ }
         requires below { ⌜ count (now frames) ≤ node .step ⌝ }
         requires early { ⌜ node .step ≤ 32 ⌝ }
@@ -58,15 +67,32 @@ impl Search {
         let left = ending::goals_left(node.goals != 0, node.step, settings.limit());
         let end = ending::branch_ending(node.flag, left, outcome);
         match end {
-            Ending::On => frames.put(Frame { node, clause: 0, bindings: self.bindings.snapshot(), waiting: self.waiting.len() }),
+            Ending::On => frames.put(Frame {
+                node,
+                clause: 0,
+                bindings: self.bindings.snapshot(),
+                waiting: self.waiting.len(),
+            }),
             Ending::Success => self.keep_path(tally.leaves, node.step),
             _ => {}
         }
-        Tally { leaves: ending::note(tally.leaves, end, node.step), steps: tally.steps }
+        Tally {
+            leaves: ending::note(tally.leaves, end, node.step),
+            steps: tally.steps,
+        }
     }
 
     // The next clause of a frame: one step, unless all clauses have been tried. A goal without clauses is dropped, which is a step too.
-    fn turn<P: Source, K: Signature>(&mut self, source: &P, kinds: &K, settings: Settings, pairs: &mut [Pair], frames: &mut Stack<'_, Frame>, frame: Frame, tally: Tally) -> Result<Tally, Refusal>
+    fn turn<P: Source, K: Signature>(
+        &mut self,
+        source: &P,
+        kinds: &K,
+        settings: Settings,
+        pairs: &mut [Pair],
+        frames: &mut Stack<'_, Frame>,
+        frame: Frame,
+        tally: Tally,
+    ) -> Result<Tally, Refusal>
         requires scratch { ⌜ 12864 ≤ length (now pairs) ⌝ }
         requires roomy { ⌜ Roomy frame ⌝ }
         requires below { ⌜ count (now frames) ≤ frame .node .step ⌝ }
@@ -78,21 +104,51 @@ impl Search {
         ensures room { λ _. ⌜ room (now (frames .exit)) ≡ room (now (frames .entry)) ⌝ }
     {
         self.go_back(frame);
-        let Some(goal) = self.first(frame.node.goals) else { return Ok(tally); };
-        let head = step::load(source, &mut self.bindings, goal.goal, frame.clause, frame.node.step);
+        let Some(goal) = self.first(frame.node.goals) else {
+            return Ok(tally);
+        };
+        let head = step::load(
+            source,
+            &mut self.bindings,
+            goal.goal,
+            frame.clause,
+            frame.node.step,
+        );
         if head.is_none() && frame.clause > 0 {
             return Ok(tally);
         }
         if tally.steps >= settings.allowance() {
             return Err(Refusal::Allowance);
         }
-        frames.put(Frame { node: frame.node, clause: frame.clause + 1, bindings: frame.bindings, waiting: frame.waiting });
+        frames.put(Frame {
+            node: frame.node,
+            clause: frame.clause + 1,
+            bindings: frame.bindings,
+            waiting: frame.waiting,
+        });
         let (node, outcome) = self.resolve(kinds, pairs, frame, goal, head);
-        Ok(self.arrive(settings, frames, node, outcome, Tally { leaves: tally.leaves, steps: tally.steps + 1 }))
+        Ok(self.arrive(
+            settings,
+            frames,
+            node,
+            outcome,
+            Tally {
+                leaves: tally.leaves,
+                steps: tally.steps + 1,
+            },
+        ))
     }
 
     // All frames, until none is left or the allowance is spent.
-    pub(super) fn walk<P: Source, K: Signature>(&mut self, source: &P, kinds: &K, settings: Settings, pairs: &mut [Pair], frames: &mut Stack<'_, Frame>, start: Tally) -> Result<Tally, Refusal>
+    pub(super) fn walk<P: Source, K: Signature>(
+        &mut self,
+        source: &P,
+        kinds: &K,
+        settings: Settings,
+        pairs: &mut [Pair],
+        frames: &mut Stack<'_, Frame>,
+        start: Tally,
+    ) -> Result<Tally, Refusal>
         requires scratch { ⌜ 12864 ≤ length (now pairs) ⌝ }
         requires rising { ⌜ Rising (held (now frames)) ⌝ }
         requires room { ⌜ 512 ≤ room (now frames) ⌝ }

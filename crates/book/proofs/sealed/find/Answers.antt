@@ -21,9 +21,10 @@ loop-r-again c =
     let p = isFor (c .args .symbol) (c .args .arity) in
     let xs = c .args .rows .now in
     let h : c .loop-r .r-index < length xs = omega arith in
-    elim (c .if-matches .came)
-      [ then-matches·else-n-number w ↦ let k = kept-yes p xs (c .loop-r .r-index) _ h (sym (c .matches .ensures) ∙ w .if-matches .taken) in (omega (arith, w .n-is), omega (arith, w .n-is), omega (arith, w .n-is, w .if-n-number .left))
-      | else-matches w ↦ let k = kept-no p xs (c .loop-r .r-index) _ h (sym (c .matches .ensures) ∙ w .if-matches .left) in (omega (arith, w .n-is), omega (arith, w .n-is), omega (arith, w .n-is)) ]
+    elim (c .if-matches .came) [
+      | then-matches·else-n-number w ↦ let k = kept-yes p xs (c .loop-r .r-index) _ h (sym (c .matches .ensures) ∙ w .if-matches .taken) in (omega (arith, w .n-is), omega (arith, w .n-is), omega (arith, w .n-is, w .if-n-number .left))
+      | else-matches w ↦ let k = kept-no p xs (c .loop-r .r-index) _ h (sym (c .matches .ensures) ∙ w .if-matches .left) in (omega (arith, w .n-is), omega (arith, w .n-is), omega (arith, w .n-is))
+    ]
 
 pub returns : need.returns
 returns c =

@@ -16,9 +16,10 @@ loop-r-again c =
     let p = isFor (c .args .symbol) (c .args .arity) in
     let xs = c .args .rows .now in
     let h : c .loop-r .r-index < length xs = omega arith in
-    elim (c .if-matches .came)
-      [ then-matches w ↦ let k = kept-yes p xs (c .loop-r .r-index) _ h (sym (c .matches .ensures) ∙ w .if-matches .taken) in (omega (arith, w .n-is), omega (arith, w .n-is))
-      | else-matches w ↦ let k = kept-no p xs (c .loop-r .r-index) _ h (sym (c .matches .ensures) ∙ w .if-matches .left) in (omega (arith, w .n-is), omega (arith, w .n-is)) ]
+    elim (c .if-matches .came) [
+      | then-matches w ↦ let k = kept-yes p xs (c .loop-r .r-index) _ h (sym (c .matches .ensures) ∙ w .if-matches .taken) in (omega (arith, w .n-is), omega (arith, w .n-is))
+      | else-matches w ↦ let k = kept-no p xs (c .loop-r .r-index) _ h (sym (c .matches .ensures) ∙ w .if-matches .left) in (omega (arith, w .n-is), omega (arith, w .n-is))
+    ]
 
 pub returns : need.returns
 returns c = c .loop-r .inv .0 ∙ ap length (kept-whole (isFor (c .args .symbol) (c .args .arity)) (c .args .rows .now) (c .loop-r .r-index) (omega arith))

@@ -24,17 +24,19 @@ returns-then-not-is-term-cell c =
 pub loop-i-again : need.loop-i-again
 loop-i-again c =
     let cs = c .args .cells .now in let i = c .loop-i .i in let n = c .loop-i .n in
-    elim (c .if-due-eq0 .came)
-    [ then-due-eq0·else-not-is-goal-cell w ↦
-        ( ap (λ m. goals m (c .if-due-eq0 .due) (drop (i + 1) cs)) (w .n-is)
-          ∙ (ap (λ d. goals (n + 1) d (drop (i + 1) cs)) (w .due-is)
-          ∙ (sym (ap (λ d. goals n d (drop i cs)) (w .if-due-eq0 .taken) ∙ goals-goal n i cs _ (omega arith) (sym (w .is-goal-cell .ensures) ∙ w .if-not-is-goal-cell .left)) ∙ c .loop-i .inv .0))
-        , omega (arith, w .n-is) )
-    | else-due-eq0·else-not-is-term-cell w ↦
-        ( ap (λ m. goals m (c .if-due-eq0 .due) (drop (i + 1) cs)) (w .n-is)
-          ∙ (ap (λ d. goals n d (drop (i + 1) cs)) (w .due-is)
-          ∙ (sym (goals-term n (c .loop-i .due) i cs _ (let z = w .if-due-eq0 .left in omega arith) (omega arith) (sym (w .is-term-cell .ensures) ∙ w .if-not-is-term-cell .left)) ∙ c .loop-i .inv .0))
-        , omega (arith, w .n-is) )
+    elim (c .if-due-eq0 .came) [
+      | then-due-eq0·else-not-is-goal-cell w ↦ (
+        ap (λ m. goals m (c .if-due-eq0 .due) (drop (i + 1) cs)) (w .n-is)
+            ∙ (ap (λ d. goals (n + 1) d (drop (i + 1) cs)) (w .due-is)
+            ∙ (sym (ap (λ d. goals n d (drop i cs)) (w .if-due-eq0 .taken) ∙ goals-goal n i cs _ (omega arith) (sym (w .is-goal-cell .ensures) ∙ w .if-not-is-goal-cell .left)) ∙ c .loop-i .inv .0)),
+        omega (arith, w .n-is),
+      )
+      | else-due-eq0·else-not-is-term-cell w ↦ (
+        ap (λ m. goals m (c .if-due-eq0 .due) (drop (i + 1) cs)) (w .n-is)
+            ∙ (ap (λ d. goals n d (drop (i + 1) cs)) (w .due-is)
+            ∙ (sym (goals-term n (c .loop-i .due) i cs _ (let z = w .if-due-eq0 .left in omega arith) (omega arith) (sym (w .is-term-cell .ensures) ∙ w .if-not-is-term-cell .left)) ∙ c .loop-i .inv .0)),
+        omega (arith, w .n-is),
+      )
     ]
 
 pub returns-then-due-eq0-2 : need.returns-then-due-eq0-2

@@ -2,7 +2,7 @@ use mathlib.Core.Path.{_≡_, refl, ap, sym, _∙_, subst}
 use native.Mathlib.Omega.{arith}
 use lib.ListN.{length}
 use borrow.Author.Needs.{needs}
-use Rattle.resolution.proofs.Branches.{holds-few}
+use Rattle.verdicts.proofs.Branches.{holds-few}
 use Rattle.resolution.proofs.Questions.{judged-none}
 use Rattle.resolution.proofs.search.Search.ask.Needs as need
 

@@ -10,7 +10,8 @@ pub returns : need.returns
 returns c =
     let cells = cut-short (c .args .frame .bindings .cells) (c .args .frame .bindings .cells) _ _ (c .roll-back .ensures .cells) (omega arith) in
     let waiting = cut-short (c .args .frame .waiting) (c .args .frame .waiting) _ _ (c .truncate .ensures .items) (omega arith) in
-    record
-      { cells = c .roll-back .ensures .cells
-      ; waiting = c .truncate .ensures .items
-      ; few = (cells, omega (arith, waiting, c .truncate .last .self .ok .0)) }
+    record {
+      cells = c .roll-back .ensures .cells;
+      waiting = c .truncate .ensures .items;
+      few = (cells, omega (arith, waiting, c .truncate .last .self .ok .0));
+    }

@@ -15,9 +15,10 @@ pub returns-then-is-shorter : need.returns-then-is-shorter
 returns-then-is-shorter c =
     let s = c .args .self .now in
     let long = s .trodden .ok .0 in let branch = s .branch in let path = s .path in
-    record
-      { bindings = refl
-      ; waiting = refl
-      ; best =
+    record {
+      bindings = refl;
+      waiting = refl;
+      best =
           whole _ _ _ _ (omega arith) (c .copy-from-slice .ensures .after ∙ c .as-slice .ensures .value)
-          ∙ sym (cond-true _ _ _ (sym (c .is-shorter .ensures) ∙ c .if-is-shorter .taken)) }
+          ∙ sym (cond-true _ _ _ (sym (c .is-shorter .ensures) ∙ c .if-is-shorter .taken));
+    }

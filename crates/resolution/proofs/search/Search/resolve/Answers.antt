@@ -1,8 +1,8 @@
 use borrow.Author.Needs.{needs}
 use mathlib.Core.Path.{_≡_, refl, ap, sym, _∙_, subst}
 use Rattle.std.specs.Of.Vec.{vec-items}
-use Rattle.resolution.specs.Leaves.{flagAfter}
-use Rattle.resolution.proofs.Branches.{flag-dropped}
+use Rattle.verdicts.specs.Leaves.{flagAfter}
+use Rattle.verdicts.proofs.Branches.{flag-dropped}
 use native.Mathlib.Omega.{arith}
 use Prim.Native.Nat.{ℕ, _+_, _-_, _<_, _≤_}
 use lib.ListN.{length}

@@ -1,6 +1,6 @@
 use Prim.Native.Nat.{_≤_}
 use Rattle.unification.specs.Held.{held, room, count}
-use Rattle.resolution.specs.Leaves.{Few}
+use Rattle.verdicts.specs.Leaves.{Few}
 use Rattle.resolution.specs.Frames.{Rising, turns}
 use Rattle.resolution.proofs.search.Search.walk.Given as given
 

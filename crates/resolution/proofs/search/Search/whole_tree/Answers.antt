@@ -25,11 +25,12 @@ arrive-start-requires g c κs =
     let same = ap (λ b. length (cellsOf b)) (c .list-goals-goals .ensures .bindings) in
     let none = c .clear .ensures .waiting in let listed = c .list-goals-goals .ensures .few in
     let count = c .new-stack .ensures .count in let room = c .new-stack .ensures .room in let deep = j .deep in
-    record
-      { rising = subst Rising (sym (c .new-stack .ensures .held)) tt
-      ; below = omega arith
-      ; early = omega arith
-      ; few = tt
-      ; room = omega arith
-      ; cells = omega arith
-      ; waiting = omega arith }
+    record {
+      rising = subst Rising (sym (c .new-stack .ensures .held)) tt;
+      below = omega arith;
+      early = omega arith;
+      few = tt;
+      room = omega arith;
+      cells = omega arith;
+      waiting = omega arith;
+    }

@@ -1,0 +1,5 @@
+mod Counts
+mod Growth
+mod Places
+pub mod Readings
+mod Variables

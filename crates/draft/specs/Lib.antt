@@ -1,0 +1,5 @@
+pub mod Drafts
+pub mod Grammar
+pub mod Numbering
+pub mod Sketch
+pub mod Under

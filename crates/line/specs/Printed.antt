@@ -3,7 +3,6 @@ use mathlib.Core.List.{List, [], _∷_, _++_}
 use Prim.Native.Nat.{ℕ, _<_}
 use mathlib.Core.Path.{_≡_}
 use lib.ListN.{length}
-use Rattle.lexis.specs.declared.fault.Cause.the-variants.{Full}
 use lib.Chars.{codes}
 use Rattle.std.specs.Written.{decimal}
 use Rattle.lexis.specs.declared.fault.Fault.{Fault}
@@ -32,10 +31,3 @@ abbrev pub printed : Reply → List ℕ
 printed (Answered a) = wordOf (a .verdict) ++ (codes " " ++ (usesOf (a .verdict) ++ (codes " " ++ (decimal (a .steps) ++ (10 ∷ [])))))
 printed (Faulty f) = codes "refused " ++ (decimal (fault.numberOf (f .cause)) ++ (codes " at " ++ (decimal (f .at) ++ (10 ∷ []))))
 printed (Refused e) = codes "refused " ++ (decimal (refusal.numberOf e) ++ (10 ∷ []))
-
--- a text of more than 8,192 bytes is refused as too much, at 8,192, before anything else is judged
-abbrev pub tooLong : Fault
-tooLong = record { cause = Full; at = 8192 }
-
-abbrev pub Told : List ℕ → Reply → Type 0
-Told text reply = 8192 < length text → reply ≡ Faulty tooLong

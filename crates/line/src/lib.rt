@@ -1,12 +1,13 @@
 // The line that `endorse` prints, made from the bytes that it reads.
 ghost use mathlib.Core.Path.{_≡_};
 ghost use Prim.Native.Nat.{ℕ, _+_, _<_, _≤_};
+ghost use lib.Dec.{ltb};
 ghost use lib.ListN.{length};
-ghost use Rattle.std.specs.Results.{Cases};
 ghost use Rattle.std.specs.Vec.{made};
 ghost use Rattle.std.specs.Of.String.{string-bytes};
-ghost use Rattle.line.specs.Printed.{printed, wordOf, tooLong, Told};
-ghost use Rattle.std.specs.declared.result.Result.the-variants.{Ok, Err};
+ghost use Rattle.line.specs.Printed.{printed, wordOf};
+ghost use Rattle.line.specs.Reading.{ReadsBook, ReadsText, Replies};
+ghost use Rattle.resolution.specs.Asked.{judged, Answered};
 use book::Book;
 use book::SealedBook;
 use book::question::question_at;
@@ -43,7 +44,9 @@ pub enum Reply {
 }
 
 // Reads clauses until the question comes, and tells where it does.
-fn read_clauses(book: &mut Book, draft: &mut Draft, text: &[u8]) -> Result<usize, Fault> {
+fn read_clauses(book: &mut Book, draft: &mut Draft, text: &[u8]) -> Result<usize, Fault>
+    ensures { λ r. ⌜ ReadsBook (now (text .entry)) (now (book .entry)) 0 r (now (book .exit)) ⌝ }
+{
     let mut at = 0;
     loop {
         if let Some(place) = question_at(text, at)? {
@@ -53,11 +56,18 @@ fn read_clauses(book: &mut Book, draft: &mut Draft, text: &[u8]) -> Result<usize
     }
 }
 
+// Whether there are more bytes than are read.
+fn is_too_long(text: &[u8]) -> bool
+    ensures { λ r. ⌜ r ≡ ltb 8192 (length (now (text .entry))) ⌝ }
+{
+    text.len() > MOST_BYTES
+}
+
 // The book and the question of a text; the question's cells stand in the draft.
 fn read_text(mut book: Book, draft: &mut Draft, text: &[u8]) -> Result<SealedBook, Fault>
-    ensures { λ r. ⌜ (8192 < length (now (text .entry)) → r ≡ Err tooLong) ⌝ }
+    ensures { λ r. ⌜ ReadsText (now (text .entry)) book (now (draft .exit)) r ⌝ }
 {
-    if text.len() > MOST_BYTES {
+    if is_too_long(text) {
         return Err(Fault {
             cause: Cause::Full,
             at: MOST_BYTES,
@@ -74,7 +84,9 @@ fn ask(
     heap: Global,
     book: &SealedBook,
     question: &[Cell],
-) -> Result<Result<Answer, Refusal>, AllocError> {
+) -> Result<Result<Answer, Refusal>, AllocError>
+    ensures { λ r. ⌜ made r (λ a. Answered (judged (now (question .entry)) 12864 512 32) 100000 a) ⌝ }
+{
     let mut search = Search::new(heap)?;
     let mut pairs = Vec::from_elem(heap, Pair { left: 0, right: 0 }, 12864)?;
     let mut frames = Vec::from_elem(heap, Frame::blank(), 512)?;
@@ -96,7 +108,7 @@ fn ask(
 
 // What comes of a text, or that there was no memory for it.
 pub fn reply_to(heap: Global, text: &[u8]) -> Result<Reply, AllocError>
-    ensures { λ r. ⌜ made r (λ p. Told (now (text .entry)) p) ⌝ }
+    ensures { λ r. ⌜ made r (λ p. Replies (now (text .entry)) p) ⌝ }
 {
     let book = Book::new(heap)?;
     let mut draft = Draft::new(heap)?;
@@ -149,7 +161,7 @@ pub fn shown(heap: Global, reply: Reply) -> Result<String, AllocError>
 
 // The line that is printed for a text, with its line end.
 pub fn line_for(heap: Global, text: &[u8]) -> Result<String, AllocError>
-    ensures { λ r. ⌜ made r (λ s. (p : Reply) × Told (now (text .entry)) p × (string-bytes s ≡ printed p)) ⌝ }
+    ensures { λ r. ⌜ made r (λ s. (p : Reply) × Replies (now (text .entry)) p × (string-bytes s ≡ printed p)) ⌝ }
 {
     let reply = reply_to(heap, text)?;
     shown(heap, reply)

@@ -2,7 +2,7 @@ use mathlib.Core.Path.{_≡_, refl, sym, _∙_, ap}
 use mathlib.Core.List.{List, [], _∷_}
 use Prim.Native.Nat.{ℕ}
 use Rattle.graphs.specs.declared.Pair.{Pair}
-use Rattle.graphs.specs.Terms.{Term, Terms, var, con, fun, none, more, KTerm, base, kfun, kmore, Subst, apply, applies, kinds, kindss}
+use Rattle.graphs.specs.Terms.{Term, Terms, var, con, fun, none, more, KTerm, base, kfun, kmore, Subst, apply, applies, kinds, kinds*}
 use Rattle.graphs.specs.Graph.{Graph}
 use Rattle.graphs.specs.Meaning.{decode, Unifies, Fits, NoKinds}
 
@@ -10,11 +10,11 @@ mutual
   kinds-apply : (kind : ℕ → ℕ → ℕ) (κ : ℕ → KTerm) (θ : Subst) (t : Term) → kinds kind κ (apply θ t) ≡ kinds kind (λ v. kinds kind κ (θ v)) t
   kinds-apply kind κ θ (var x) = refl
   kinds-apply kind κ θ (con f v) = refl
-  kinds-apply kind κ θ (fun s ts) = ap (kfun s) (kindss-applies kind κ θ ts)
+  kinds-apply kind κ θ (fun s ts) = ap (kfun s) (kinds*-applies kind κ θ ts)
 
-  kindss-applies : (kind : ℕ → ℕ → ℕ) (κ : ℕ → KTerm) (θ : Subst) (ts : Terms) → kindss kind κ (applies θ ts) ≡ kindss kind (λ v. kinds kind κ (θ v)) ts
-  kindss-applies kind κ θ none = refl
-  kindss-applies kind κ θ (more t ts) = let a = kinds-apply kind κ θ t in let b = kindss-applies kind κ θ ts in cc
+  kinds*-applies : (kind : ℕ → ℕ → ℕ) (κ : ℕ → KTerm) (θ : Subst) (ts : Terms) → kinds* kind κ (applies θ ts) ≡ kinds* kind (λ v. kinds kind κ (θ v)) ts
+  kinds*-applies kind κ θ none = refl
+  kinds*-applies kind κ θ (more t ts) = let a = kinds-apply kind κ θ t in let b = kinds*-applies kind κ θ ts in cc
 
 -- what unifies fits, whatever kinds its variables are given
 pub unifies-fits : (kind : ℕ → ℕ → ℕ) (κ : ℕ → KTerm) (cap : ℕ) (g : Graph) (θ : Subst) (E : List Pair) → Unifies cap g θ E → Fits kind cap g (λ v. kinds kind κ (θ v)) E

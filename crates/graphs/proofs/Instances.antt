@@ -6,7 +6,7 @@ use lib.ListN.{length}
 use Rattle.std.proofs.shelf.Lists.{map-id}
 use native.Mathlib.Omega.{arith}
 use native.Mathlib.Decide.{decLe, ℕ-discrete}
-use Rattle.graphs.specs.Terms.{Term, Terms, var, con, fun, none, more, KTerm, KTerms, base, kfun, knone, kmore, Subst, apply, applies, kinds, kindss, pack, kpack, size, sizes, ksize, ksizes}
+use Rattle.graphs.specs.Terms.{Term, Terms, var, con, fun, none, more, KTerm, KTerms, base, kfun, knone, kmore, Subst, apply, applies, kinds, kinds*, pack, kpack, size, sizes, ksize, ksizes}
 use Rattle.graphs.specs.Graph.{Shape, free, atom, app, Graph, Algebra, Each, Pair, pairs, walk, find, Atoms, Apps, Values, Stacked, Sat, Closed, Sound, Linked, Ordered, Solves, Tie, solution}
 use Rattle.graphs.specs.Meaning.{Live, AllLive, termAlgebra, kindAlgebra, Forward, same-node, value, decode, Unifies, Fits}
 use Rattle.graphs.proofs.Walks.{each-map, map-each, walk-fixed, walk-keeps, find-root, find-up}
@@ -71,9 +71,9 @@ pub applies-pack : (θ : Subst) (ts : List Term) → applies θ (pack ts) ≡ pa
 applies-pack θ [] = refl
 applies-pack θ (t ∷ ts) = ap (more (apply θ t)) (applies-pack θ ts)
 
-pub kindss-pack : (kind : ℕ → ℕ → ℕ) (κ : ℕ → KTerm) (ts : List Term) → kindss kind κ (pack ts) ≡ kpack (map (kinds kind κ) ts)
-kindss-pack kind κ [] = refl
-kindss-pack kind κ (t ∷ ts) = ap (kmore (kinds kind κ t)) (kindss-pack kind κ ts)
+pub kinds*-pack : (kind : ℕ → ℕ → ℕ) (κ : ℕ → KTerm) (ts : List Term) → kinds* kind κ (pack ts) ≡ kpack (map (kinds kind κ) ts)
+kinds*-pack kind κ [] = refl
+kinds*-pack kind κ (t ∷ ts) = ap (kmore (kinds kind κ t)) (kinds*-pack kind κ ts)
 
 module _ (cap : ℕ) (g : Graph) (fw : Forward cap g) where
   pub value-values : (A : Algebra) (θ : ℕ → A .T) → Values A g (value A cap g θ)
@@ -90,7 +90,7 @@ module _ (cap : ℕ) (g : Graph) (fw : Forward cap g) where
 
   pub kinds-decode : (kind : ℕ → ℕ → ℕ) (κ : ℕ → KTerm) (n : ℕ) → kinds kind κ (decode cap g n) ≡ value (kindAlgebra kind) cap g κ n
   kinds-decode kind κ = solution-image termAlgebra (kindAlgebra kind) (λ n. var (n - cap)) g same-node (λ n. cap - n) (same-sound g) (forward-ordered cap g fw)
-      (kinds kind κ) (λ a v. refl) (λ s ts. ap (kfun s) (kindss-pack kind κ ts)) (value (kindAlgebra kind) cap g κ) (value-values (kindAlgebra kind) κ) (λ n. refl)
+      (kinds kind κ) (λ a v. refl) (λ s ts. ap (kfun s) (kinds*-pack kind κ ts)) (value (kindAlgebra kind) cap g κ) (value-values (kindAlgebra kind) κ) (λ n. refl)
       (λ r q. sym (value-free (kindAlgebra kind) κ r q))
 
   pub unifies-stacked : (θ : Subst) (E : List Pair) → Unifies cap g θ E → Stacked termAlgebra (value termAlgebra cap g θ) E

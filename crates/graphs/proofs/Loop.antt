@@ -6,7 +6,7 @@ use Prim.Native.Nat.{ℕ, zero, suc, _+_, _-_, _≤_, _<_}
 use lib.ListN.{length, length-map}
 use native.Mathlib.Omega.{arith}
 use native.Mathlib.Decide.{ℕ-discrete, decLe}
-use Rattle.graphs.specs.Terms.{Term, Terms, var, con, fun, none, more, KTerm, KTerms, base, kfun, knone, kmore, Subst, apply, applies, kinds, kindss, pack, kpack}
+use Rattle.graphs.specs.Terms.{Term, Terms, var, con, fun, none, more, KTerm, KTerms, base, kfun, knone, kmore, Subst, apply, applies, kinds, kinds*, pack, kpack}
 use Rattle.graphs.specs.Graph.{Shape, free, atom, app, Graph, Algebra, Each, Pair, pairs, onto, walk, find, Atoms, Apps, Values, Stacked, Sat, Closed, Sound, Linked, Ordered, Solves, Tie, solution}
 use Rattle.graphs.specs.Meaning.{termAlgebra, kindAlgebra, arena, Forward, Live, AllLive, same-node, value, decode, Unifies, Fits, answer, MostGeneral, NoKinds, KindsOnly, Going}
 use Rattle.graphs.proofs.Walks.{each-map, map-each, walk-fixed, walk-keeps, find-root, find-up}

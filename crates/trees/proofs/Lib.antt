@@ -1,0 +1,10 @@
+pub mod Substs
+pub mod Splits
+pub mod Outcomes
+pub mod Lifting
+pub mod Uniques
+pub mod Summaries
+pub mod Search
+pub mod Worked
+pub mod Arguments
+pub mod Claims

@@ -1,0 +1,9 @@
+pub mod Terms
+pub mod Tree
+pub mod Proofs
+pub mod Verdicts
+pub mod Summaries
+pub mod Search
+pub mod Worked
+pub mod Arguments
+pub mod Claims

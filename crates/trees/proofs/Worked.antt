@@ -7,7 +7,7 @@ use Rattle.trees.specs.Terms.{Term, Terms, var, con, fun, none, more, Subst, a
 use Rattle.trees.specs.Tree.{Goal, Clause, Tree, Trees, success, failed, wrong, cut, branch, and, no-more, IsTree, is-success, is-failed, is-cut, is-dropped, is-branch, by-none, by-wrong, by-false, by-solved, with-head, steps}
 use Rattle.typing.proofs.Examples as equations
 use Rattle.trees.proofs.Uniques.{one-tree}
-use Rattle.trees.specs.Worked.{form, int, atom, goal₁, goal₂, fact, circle, twins, numbers, Answered, numbers-hold, wrong-after-false, fails-after-false, cut-at-one, circle-is-cut, three-steps, Worked}
+use Rattle.trees.specs.Worked.{form, int, atom, goal₁, goal₂, fact, circle, twins, numbers, Answered, numbers-hold, wrong-after-false, fails-after-false, cut-at-one, circle-is-cut, three-steps, apart, old-equations-kept, Worked}
 use Rattle.trees.proofs.Summaries.{summed}
 
 abbrev ones : Subst
@@ -92,6 +92,20 @@ turns (suc n) k t E l u e =
 t5 : circle-is-cut
 t5 = record { tree = chain 32; is = turns 32 0 (int 1) [] refl tt refl; verdict = summed (chain 32) .verdict; steps-are = refl }
 
+unlike₃ : ¬ Solvable (with-head 0 (goal₂ 0 (var 0) (int 2)) (fact (goal₂ 0 (atom 1) (int 1))) [])
+unlike₃ s = let e = s .1 .0 in let z : _≡_ {A = ℕ} 2 1 = cc in omega arith
+
+kept : old-equations-kept
+kept = record {
+  tree = lone (lone failed);
+  is = is-branch (omega arith)
+      (by-false (((λ x. base 2), (refl, tt)), unlike₃)
+      (is-branch (omega arith) (by-solved ((λ x. int 5), (refl, tt)) is-failed by-none))
+      by-none);
+  verdict = summed (lone (lone failed)) .verdict;
+  steps-are = refl;
+}
+
 three : three-steps
 unfolding t1
 three t is =
@@ -99,4 +113,4 @@ three t is =
     (omega arith, omega arith)
 
 pub worked : Worked
-worked = (equations.worked, t1, three, t2, t3, t4, t5)
+worked = (equations.worked, t1, three, t2, t3, kept, t4, t5)

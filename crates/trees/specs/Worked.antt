@@ -65,10 +65,18 @@ cut-at-one = Answered twins 1 (goal₂ 0 (int 1) (int 1) ∷ (goal₂ 0 (int 1) 
 abbrev pub circle-is-cut : Type 0
 circle-is-cut = Answered circle 32 (goal₁ 0 (int 1) ∷ []) unsettled 32
 
+-- p(a,1). q(5).
+abbrev pub apart : Program
+apart s n = cond (eqb s 0 && eqb n 2) (fact (goal₂ 0 (atom 1) (int 1)) ∷ []) (cond (eqb s 1 && eqb n 1) (fact (goal₁ 1 (int 5)) ∷ []) [])
+
+-- p(Y,2), q(Y): the false step keeps the old equations, so Y is still free for q(5); had it kept Y = a, an integer would meet an atom
+abbrev pub old-equations-kept : Type 0
+old-equations-kept = Answered apart 32 (goal₂ 0 (var 0) (int 2) ∷ (goal₁ 1 (var 0) ∷ [])) fails 2
+
 -- an allowance of 2 steps is too small for the tree of p(1), and one of 3 is not
 abbrev pub three-steps : Type 0
 three-steps = (t : Tree) → IsTree numbers form 32 true (goal₁ 0 (int 1) ∷ []) [] 0 t → (2 < steps t) × (steps t ≤ 3)
 
 -- equations and questions, joined
 abbrev pub Worked : Type 0
-Worked = equations.Worked × numbers-hold × three-steps × wrong-after-false × fails-after-false × cut-at-one × circle-is-cut
+Worked = equations.Worked × numbers-hold × three-steps × wrong-after-false × fails-after-false × old-equations-kept × cut-at-one × circle-is-cut

@@ -6,11 +6,13 @@ usage: python3 tools/snake_names.py        at the top of the repository, once, a
 Words (functions, lemmas, fields, constructors) go to snake case, types and facts to upper camel case:
 placeOf -> place_of, goals-no-goal -> goals_no_goal, Reads-variable -> ReadsVariable.
 
-A name is turned where a file declares it or imports it from a crate of this repository, a field behind its
-dot and before its '='. Names that Rattle makes for proofs (goals, steps, branches) are no names of ours and
-stay, as do the names of src/, strings, inputs and outputs. A lemma that would take the name of a definition
-that stands in one file with it gets _lem, as the library has it. Edits are turned in the scope of the file that
-they edit, pages between backticks. It stops before it writes where two definitions would fall together.
+A name is turned where a file declares it, imports it from a crate of this repository or names it behind such a
+module; a field behind its dot, before its '=' or ':', in its own record and where a file opens it. Names that
+Rattle makes for proofs (goals, steps, branches) are no names of ours and stay, as do the names of src/, strings,
+inputs and outputs. A lemma that would take the name of a definition that stands in one file with it gets _lem, as
+the library has it; APART has two names more that would have fallen together with another. Edits are turned in the
+scope of the file that they edit; README.md, docs/ (not PORT.md) and examples/README.md between backticks. It stops
+before it writes where two definitions would fall together.
 """
 
 import collections
@@ -21,6 +23,7 @@ import sys
 
 WORD = r"[^\s(){}\[\].;,@\"«»:`|]+"
 TOKEN = re.compile(r"\"(?:[^\"\\]|\\.)*\"|«[^»]*»|" + WORD)
+OPEN = re.compile(r"open \S+ use \{([^}]*)\}")
 HEAD = re.compile(r"^(?:(?:abbrev|unfoldable|pub|mutual) )*(record |data )?([^\s:({]+)(?=[\s:({])")
 SPECIAL = {"getD": "get_or"}
 # Each would have fallen together with another name of its own file.
@@ -47,26 +50,45 @@ def module(path):
 
 
 def declared(path, text):
-    """The top names of a file, and the fields of its records."""
-    names, fields, kind = set(), set(), None
+    """The names of a file, also those inside its unnamed modules and mutual blocks, and the fields of its records."""
+    names, fields, blocks, kind, opening = set(), set(), [0], None, False
     for line in text.split("\n"):
-        if line.startswith(("--", "use ", "pub use ", "mod ", "pub mod ", "unfolding ")) or not line.strip():
+        bare = line.strip()
+        if not bare or bare.startswith("--"):
             continue
-        if not line[0].isspace():
-            m = HEAD.match(line)
-            kind = None
-            if not m:
-                continue
-            if m.group(1) and line.rstrip().endswith("where"):
-                kind = m.group(1).strip()
-            if m.group(1) or re.search(r"(^|\s):(\s|$)", line):
-                if not re.search(r":\s+goal\.\S+\s*$", line):
-                    names.add(m.group(2))
-        elif kind:
-            m = re.match(r"  (?:pub )?(\S[^:({]*?)\s*:(\s|$)", line)
-            if m and not line.startswith("   "):
+        deep = len(line) - len(line.lstrip())
+        while deep < blocks[-1]:
+            blocks.pop()
+        if opening and deep > blocks[-1]:
+            # the head of a module goes on over lines
+            if bare.endswith("where"):
+                blocks.append(blocks[-1] + 2)
+                opening = False
+            continue
+        if deep > blocks[-1]:
+            m = re.match(r"(?:pub )?(\S[^:({]*?)\s*:(\s|$)", bare)
+            if kind and m and deep == blocks[-1] + 2:
                 (fields if kind == "record" else names).update(m.group(1).split())
-    return names, fields
+            continue
+        kind = None
+        if bare == "mutual" or bare.startswith("module "):
+            if bare == "mutual" or bare.endswith("where"):
+                blocks.append(deep + 2)
+            else:
+                opening = True
+            continue
+        if bare.startswith(("use ", "pub use ", "mod ", "pub mod ", "unfolding ", "open ", "pub open ")):
+            continue
+        m = HEAD.match(bare)
+        if not m:
+            continue
+        if m.group(1) and re.search(r"(^| )where$", bare):
+            kind = m.group(1).strip()
+        elif m.group(1):
+            kind = m.group(1).strip()
+        if m.group(1) or re.search(r"(^|\s):(\s|$)", bare):
+            names.add(m.group(2))
+    return names - set(re.findall(r"(?m)^\s*(?:(?:abbrev|pub) )*(\S+)\s*:\s+goal\.\S+\s*$", text)), fields
 
 
 IMPORT = re.compile(r"use (Rattle\.[\w.'+\-]+?)\.\{([^}]*)\}")
@@ -76,6 +98,9 @@ def imported(text, own):
     """The names that a file brings in from this repository, each with the module that declares it."""
     found = {}
     for where, names in IMPORT.findall(text):
+        if where not in own:
+            # constructors are named behind their type
+            where = where.rpartition(".")[0]
         if where not in own:
             continue
         for it in names.split(","):
@@ -89,7 +114,9 @@ def imported(text, own):
 
 def aliases(text, own):
     """Modules of this repository that a file names by a short word."""
-    return {short: where for where, short in re.findall(r"(?m)^use (Rattle\.[\w.'+\-]+) as (\w+)$", text) if where in own}
+    named = re.findall(r"(?m)^use (Rattle\.[\w.'+\-]+) as (\w+)$", text)
+    named += [(where, where.split(".")[-1]) for where in re.findall(r"(?m)^use (Rattle\.[\w.'+\-]+)$", text)]
+    return {short: where for where, short in named if where in own}
 
 
 def turned(text, scope, fields, short):
@@ -122,10 +149,11 @@ def read(path):
 def main():
     antt = [p for p in sorted(glob.glob("crates/*/specs/**/*.antt", recursive=True) + glob.glob("crates/*/proofs/**/*.antt", recursive=True)) if "/out/" not in p]
     texts = {p: read(p) for p in antt}
-    own, fields = {}, set()
+    own, fields, of_file = {}, set(), {}
     for p, t in texts.items():
         names, fs = declared(p, t)
         own[module(p)] = names
+        of_file[p] = fs
         fields |= fs
     scopes = {p: imported(t, own) | {n: module(p) for n in own[module(p)]} for p, t in texts.items()}
     fields = {n for n in fields if is_old(n)}
@@ -151,6 +179,11 @@ def main():
         for f in re.findall(r"(?m)^file: (\S+)", texts[p]):
             scopes[p] |= scopes.get(os.path.join(os.path.dirname(os.path.dirname(p)), f), {})
     scopes = {p: {n: new_name(where, n) for n, where in scope.items() if is_old(n)} for p, scope in scopes.items()}
+    # fields that a file names without their record: those that it opens, and in a record its own
+    for p, scope in scopes.items():
+        scope.update({n: spelled(n) for n in of_file.get(p, ()) if is_old(n) and n not in scope})
+        for names in OPEN.findall(texts[p]):
+            scope.update({n.strip(): spelled(n.strip()) for n in names.split(",") if n.strip() in fields})
 
     everywhere = set().union(*own.values()) | fields
     everywhere = {n for n in everywhere if is_old(n)}

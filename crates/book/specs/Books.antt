@@ -5,7 +5,7 @@ use Rattle.std.proofs.lemmas.List.Elements.{All-from_get_or, All-get_or, All-tak
 use Rattle.std.proofs.lemmas.Bool.{and_parts, eqb-true}
 use Rattle.std.proofs.lemmas.List.{length-map, length-take-le, length-drop, get_or-map, get_or_default}
 use Rattle.std.proofs.lemmas.List.Edits.{length-between, get_or-between}
-use Rattle.clauses.specs.Clauses.{Low, Slim, Formed}
+use Rattle.clauses.specs.Clauses.{Low, Slim, OfPredicate}
 use Rattle.terms.specs.declared.Cell.{Cell}
 use Rattle.book.specs.declared.Row.{Row}
 use Rattle.book.specs.declared.SealedBook.{SealedBook}
@@ -58,7 +58,7 @@ books_found b p n number r h e =
 kept_for : (p n : ℕ) (r : Row) → is_for p n r ≡ true → (r.symbol ≡ p) × (r.arity ≡ n)
 kept_for p n r e = let w = and_parts (r.symbol == p) _ e in (eqb-true r.symbol p w.0, eqb-true r.arity n w.1)
 
-pub books_formed : (b : SealedBook) (p n k : ℕ) → k < length (book_clauses b p n) → Formed p n (slice_index_or (book_clauses b p n) k [])
+pub books_formed : (b : SealedBook) (p n k : ℕ) → k < length (book_clauses b p n) → OfPredicate p n (slice_index_or (book_clauses b p n) k [])
 books_formed b p n k h =
     let ks = filter (is_for p n) (vec_items b.rows) in
     let cells = vec_items b.cells in
@@ -71,7 +71,7 @@ books_formed b p n k h =
     let f = kept_for p n r (All-get_or (λ x. is_for p n x ≡ true) ks k no_row l (filter_passes (is_for p n) (vec_items b.rows))) in
     let v : is_clause p n (clause_of cells r) ≡ true = ap (λ q. is_clause q n (clause_of cells r)) (sym f.0) ∙ (ap (λ m. is_clause r.symbol m (clause_of cells r)) (sym f.1) ∙ w) in
     let long = books_long b r (omega (arith, i.2)) in
-    subst (Formed p n) (sym (get_or-map (clause_of cells) ks k no_row [] l))
+    subst (OfPredicate p n) (sym (get_or-map (clause_of cells) ks k no_row [] l))
     (right_formed p n (clause_of cells r) v (omega (arith, i.0)) (omega (arith, i.1)) (books_low b r) (books_slim b r))
 
 pub books_short : (b : SealedBook) (p n : ℕ) → length (book_clauses b p n) ≤ 65535
@@ -79,25 +79,25 @@ books_short b p n = let e = b.rows.ok.0 in let f = b.few in omega (arith, books_
 
 -- the rows of a predicate are those between two places
 module _ (b : SealedBook) (p n key a e : ℕ) (rows : List Row) (small : n < 256) (same : rows ≡ vec_items b.rows) (is : key ≡ key_of p n) (u : Parted rows key a) (v : Parted rows (key + 1) e) where
-  books-range : filter (is_for p n) (vec_items b.rows) ≡ between a e (vec_items b.rows)
-  books-range =
+  books_range : filter (is_for p n) (vec_items b.rows) ≡ between a e (vec_items b.rows)
+  books_range =
       let l = b.rows.ok.0 in
       kept_range p n a e (vec_items b.rows) small (λ k d h. b.narrow k d (omega arith)) (parted_at rows (vec_items b.rows) key (key_of p n) a same is u)
       (parted_at rows (vec_items b.rows) (key + 1) (key_of p n + 1) e same (ap (λ m. m + 1) is) v)
 
-  books-many : length (filter (is_for p n) (vec_items b.rows)) ≡ e - a
-  books-many = ap length books-range ∙ length-between (vec_items b.rows) a e (let m = v.most in let l = ap (λ (xs : List Row). length xs) same in omega arith)
+  books_many : length (filter (is_for p n) (vec_items b.rows)) ≡ e - a
+  books_many = ap length books_range ∙ length-between (vec_items b.rows) a e (let m = v.most in let l = ap (λ (xs : List Row). length xs) same in omega arith)
 
-  pub books-counted : e - a ≡ length (book_clauses b p n)
-  books-counted = sym (books_count b p n ∙ books-many)
+  pub books_counted : e - a ≡ length (book_clauses b p n)
+  books_counted = sym (books_count b p n ∙ books_many)
 
-  pub books-row : (number : ℕ) → number < e - a → Found b p n number (slice_index_or rows (a + number) no_row)
-  books-row number h =
+  pub books_row : (number : ℕ) → number < e - a → Found b p n number (slice_index_or rows (a + number) no_row)
+  books_row number h =
       let r = get_or rows (a + number) no_row in
       let items = vec_items b.rows in
       let l = ap (λ (xs : List Row). length xs) same in
       let m = v.most in
-      let k = books-many in
+      let k = books_many in
       books_found b p n number r (omega arith)
-      (ap (λ xs. get_or xs number r) books-range
+      (ap (λ xs. get_or xs number r) books_range
       ∙ (get_or-between items a e number r (omega arith) ∙ (get_or_default items (a + number) r no_row (omega arith) ∙ ap (λ xs. get_or xs (a + number) no_row) (sym same))))

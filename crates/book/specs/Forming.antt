@@ -5,12 +5,12 @@ use Rattle.std.specs.List.{insert}
 use Rattle.std.proofs.lemmas.Bool.{and_parts, and_from, or_cases, or_left, or_right, cases_Bool, not-true, not_from_false, eqb-true, eq-eqb, both_ways, leb-true, le-leb, ltb-true, lt-ltb}
 use Rattle.terms.specs.declared.Cell.{Cell}
 use Rattle.terms.specs.Shape.{goals}
-use Rattle.clauses.specs.Clauses.{Low, Slim, Formed, vars_after, InOrder, head_of}
+use Rattle.clauses.specs.Clauses.{Low, Slim, OfPredicate, vars_after, InOrder, head_of}
 use Rattle.names.specs.declared.Names.{Names}
 use Rattle.names.specs.Words.{names_of}
 use Rattle.names.proofs.Tables.{length_words}
 use Rattle.draft.specs.Spelled.{Spelled}
-use Rattle.draft.specs.Sketch.{Sketch, QuestionRead}
+use Rattle.draft.specs.Sketch.{Sketch}
 use Rattle.draft.specs.declared.Draft.{Draft}
 use Rattle.draft.proofs.Numbered.{spelled_numbered}
 use Rattle.draft.proofs.Wholes.{question_spelled}
@@ -56,7 +56,7 @@ goals_tested : (cs : List Cell) (n : ℕ) → goals 0 0 cs ≡ Some (1 + n) → 
 goals_tested cs n e h = ap clause_goals e ∙ and_from (nat_lt 0 (1 + n)) _ (lt-ltb 0 (1 + n) (omega arith)) (le-leb (1 + n) 9 (omega arith))
 
 -- what the tables tell of a row is what a source owes
-pub right_formed : (p n : ℕ) (cs : List Cell) → is_clause p n cs ≡ true → 0 < length cs → length cs ≤ 32 → All Low cs → All Slim cs → Formed p n cs
+pub right_formed : (p n : ℕ) (cs : List Cell) → is_clause p n cs ≡ true → 0 < length cs → length cs ≤ 32 → All Low cs → All Slim cs → OfPredicate p n cs
 unfolding is_clause
 right_formed p n cs e some few low slim =
     let u = and_parts (clause_goals (goals 0 0 cs)) _ e in
@@ -64,10 +64,7 @@ right_formed p n cs e some few low slim =
     let w = and_parts ((head_of cs).value == p) _ v.1 in
     let g = goals_told (goals 0 0 cs) u.0 in
     record {
-      some = some;
-      few = few;
-      low = low;
-      slim = slim;
+      formed = record { some = some; few = few; low = low; slim = slim };
       body = g.0;
       goal_list = g.1.0;
       eight = g.1.1;
@@ -107,6 +104,6 @@ spelled_from h text names s p =
     let f = names.few in
     spelled_numbered h text (names_of names) s.cells s.spans (omega arith) p
 
-pub asked_from : (names : Names) (text : List ℕ) (at : ℕ) (d : Draft) (s : Sketch) → QuestionRead text at s → vec_items d.cells ≡ cells_from text names s → Asked names text at d
-asked_from names text at d s q e =
-    record { sketch = s; question = q; cells = e; spelled = subst (Spelled 0) (sym e) (spelled_from 0 text names s (question_spelled text at s q)) }
+-- a question that was read is spelled as one
+pub asked_spelled : (names : Names) (text : List ℕ) (at : ℕ) (d : Draft) → Asked names text at d → Spelled 0 (vec_items d.cells)
+asked_spelled names text at d a = subst (Spelled 0) (sym a.cells) (spelled_from 0 text names a.sketch (question_spelled text at a.sketch a.question))

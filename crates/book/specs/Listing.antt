@@ -2,7 +2,7 @@
 use Rattle.std.specs.Prelude.{◌≡◌, ℕ, ◌+◌, Bool, true, false, cond, List, [], ◌∷◌, ◌++◌, map, length, take, drop, All, filter, refl}
 use Rattle.std.proofs.Common.{arith, ap, ◌∙◌}
 use Rattle.std.specs.List.{insert}
-use Rattle.std.proofs.lemmas.List.Elements.{All-filter}
+use Rattle.std.proofs.lemmas.List.Elements.{All-filter, All-head, All-tail}
 use Rattle.std.proofs.lemmas.List.{map-append, drop-append-le, take-append-le, drop_at, take_all, length-drop}
 use Rattle.terms.specs.declared.Cell.{Cell}
 use Rattle.book.specs.declared.Row.{Row}
@@ -19,7 +19,7 @@ clause_stays cells more r h =
 clauses_stay : (cells more : List Cell) (rows : List Row) → All (Inside (length cells)) rows → map (clause_of (cells ++ more)) rows ≡ map (clause_of cells) rows
 clauses_stay cells more [] h = refl
 clauses_stay cells more (r ∷ rs) h =
-    ap (λ c. c ∷ map (clause_of (cells ++ more)) rs) (clause_stays cells more r h.0) ∙ ap (λ cs. clause_of cells r ∷ cs) (clauses_stay cells more rs h.1)
+    ap (λ c. c ∷ map (clause_of (cells ++ more)) rs) (clause_stays cells more r (All-head (Inside (length cells)) r rs h)) ∙ ap (λ cs. clause_of cells r ∷ cs) (clauses_stay cells more rs (All-tail (Inside (length cells)) r rs h))
 
 pub clause_added : (cells clause : List Cell) → clause_of (cells ++ clause) (row_of (length cells) clause) ≡ clause
 clause_added cells clause = ap (take (length clause)) (drop_at cells clause (length cells) refl) ∙ take_all (length clause) clause (omega arith)

@@ -10,7 +10,6 @@ use Rattle.names.specs.declared.Names.{Names}
 use Rattle.names.specs.Words.{names_of}
 use Rattle.draft.specs.Numbering.{numbered_all, words_after}
 use Rattle.draft.specs.Sketch.{Sketch, ReadsClause, QuestionRead}
-use Rattle.draft.specs.Spelled.{Spelled}
 use Rattle.book.specs.Meaning.{open_clauses, listed_with, has_room}
 
 -- what was read, its names and strings numbered by the names known before
@@ -35,9 +34,8 @@ pub data Refused (before : Book) (text : List ℕ) (at : ℕ) : Fault → Type 0
   full : (end : ℕ) (s : Sketch) → ReadsClause text at (Ok (end, s)) → has_room before (length (cells_from text before.names s)) (names_from text before.names s) ≡ false
       → Refused before text at (record { cause = Full; at = start_at text at })
 
--- the draft holds the question's cells, at most 8 goals, names that the book does not have numbered after the book's
+-- the draft holds the question's cells, names that the book does not have numbered after the book's
 pub record Asked (names : Names) (text : List ℕ) (at : ℕ) (d : Draft) : Type 0 where
   pub sketch : Sketch
   pub question : QuestionRead text at sketch
   pub cells : vec_items d.cells ≡ cells_from text names sketch
-  pub spelled : Spelled 0 (vec_items d.cells)

@@ -2,7 +2,7 @@
 use Rattle.std.specs.Prelude.{◌≡◌, ℕ, ◌+◌, ◌-◌, ◌<◌, ◌≤◌, Bool, true, false, ◌⊎◌, List, [], ◌∷◌, ◌++◌, length, get_or, take, drop, All, filter, ◌==◌, ◌≢◌, slice_index_or, refl}
 use Rattle.std.proofs.Common.{arith, sym, ◌∙◌, ap, subst, inl, inr}
 use Rattle.std.specs.List.{insert, between}
-use Rattle.std.proofs.lemmas.List.Elements.{filter-append, All-from_get_or}
+use Rattle.std.proofs.lemmas.List.Elements.{filter-append, All-from_get_or, All-head, All-tail}
 use Rattle.std.proofs.lemmas.List.Edits.{split_between, length-between, get_or-between, length-insert, get_or-insert_below, get_or-insert_at, get_or-insert_above}
 use Rattle.std.proofs.lemmas.List.{append-nil, get_or_default, take-append-drop, get_or-take, get_or-drop, length-drop, length-take-le}
 use Rattle.std.proofs.lemmas.Bool.{cases_Bool, cases_order, cond-true, cond-false, and_parts, and_from, eqb-true, eq-eqb}
@@ -12,11 +12,11 @@ use Rattle.book.specs.Meaning.{is_for}
 
 kept_none : {X : Type 0} (p : X → Bool) (xs : List X) → All (λ x. p x ≡ false) xs → filter p xs ≡ []
 kept_none p [] a = refl
-kept_none p (x ∷ xs) a = cond-false (p x) _ _ a.0 ∙ kept_none p xs a.1
+kept_none p (x ∷ xs) a = cond-false (p x) _ _ (All-head (λ x. p x ≡ false) x xs a) ∙ kept_none p xs (All-tail (λ x. p x ≡ false) x xs a)
 
 kept_every : {X : Type 0} (p : X → Bool) (xs : List X) → All (λ x. p x ≡ true) xs → filter p xs ≡ xs
 kept_every p [] a = refl
-kept_every p (x ∷ xs) a = cond-true (p x) _ _ a.0 ∙ ap (λ ys. x ∷ ys) (kept_every p xs a.1)
+kept_every p (x ∷ xs) a = cond-true (p x) _ _ (All-head (λ x. p x ≡ true) x xs a) ∙ ap (λ ys. x ∷ ys) (kept_every p xs (All-tail (λ x. p x ≡ true) x xs a))
 
 -- one more element, after all that pass
 kept_inserted : {X : Type 0} (p : X → Bool) (xs : List X) (at : ℕ) (y : X) → (p y ≡ true → All (λ x. p x ≡ false) (drop at xs))

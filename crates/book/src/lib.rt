@@ -1,4 +1,6 @@
 // A book of clauses, read from text. It takes clauses while it is open; sealed, it takes no more and is a source.
+#![tactic(auto)]
+
 ghost use Rattle.std.specs.Prelude.{ℕ, ◌<◌, ◌≤◌, get_or, vec_len, vec_capacity, slice_index_or};
 ghost use Rattle.terms.specs.declared.Cell.{Cell as CellOf};
 ghost use Rattle.clauses.specs.Clauses.{Low, Slim};

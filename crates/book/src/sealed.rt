@@ -5,7 +5,7 @@ ghost use Rattle.book.specs.Books.{books_short, books_formed};
 
 use crate::order::{key, lower_bound};
 use crate::{Row, SealedBook};
-use clauses::{Refusal, Source, rename};
+use clauses::{ProgramSource, Refusal, Source, rename};
 use terms::Cell;
 
 impl SealedBook {
@@ -30,7 +30,7 @@ impl Source for SealedBook {
 
     ghost short = { books_short };
 
-    ghost formed = { books_formed };
+    ghost formed = { λ s p n k h. (books_formed s p n k h).formed };
 
     fn count(&self, symbol: u32, arity: u8) -> usize {
         let rows = self.rows.as_slice();
@@ -62,4 +62,8 @@ impl Source for SealedBook {
         rename::write_from(&cells[from..from + n], base, out, at);
         Ok(n)
     }
+}
+
+impl ProgramSource for SealedBook {
+    ghost of_predicate = { books_formed };
 }

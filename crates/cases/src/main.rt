@@ -1,5 +1,7 @@
 // Prints the line for each case of a table on standard input. A line of the table is a text with escapes: `\n`, `\t`, `\r`, `\\`, `\xHH`, and
 // `\{N:TEXT\}` for N times TEXT, in which `\#` is the running number from 0. A line that starts with `#` is a comment.
+#![tactic(auto)]
+
 ghost use Rattle.std.specs.Prelude.{◌≡◌, ℕ, ◌+◌, ◌<◌, ◌≤◌, ◌++◌, length, drop, IfSome, IfOk, decimal, OnOk};
 ghost use Rattle.cases.specs.Escapes.{hex_of, escaped, escape_length, unescaped};
 ghost use Rattle.cases.specs.Marks.{mark_from};

@@ -1,5 +1,5 @@
 -- Clauses as lists of cells, and what writing one does.
-use Rattle.std.specs.Prelude.{◌≡◌, ℕ, suc, ◌+◌, ◌<◌, ◌≤◌, Bool, true, false, cond, ◌&&◌, List, [], ◌∷◌, ◌++◌, map, length, take, drop, Some, Ok, Err, All, Result, ◌==◌, nat_le, slice_index_or}
+use Rattle.std.specs.Prelude.{◌≡◌, ℕ, suc, ◌+◌, ◌<◌, ◌≤◌, cond, ◌&&◌, List, [], ◌∷◌, ◌++◌, map, length, take, drop, Some, Ok, Err, All, Result, ◌==◌, nat_le, slice_index_or}
 use Rattle.terms.specs.declared.Cell.{Cell}
 use Rattle.terms.specs.Shape.{goals}
 use Rattle.clauses.specs.declared.Refusal.{Refusal}
@@ -37,17 +37,25 @@ InOrder n (c ∷ cs) = (c.tag ≡ 0 → c.value ≤ n) × InOrder (vars_after n 
 abbrev pub head_of : List Cell → Cell
 head_of cs = slice_index_or cs 0 (record { tag = 0; form = 0; arity = 0; value = 0 })
 
--- a clause of a predicate: a head goal of that symbol and arity and 0 to 8 body goals, in 1 to 32 cells of at most 8 arguments each, with variables below 32, numbered by first appearance
-pub record Formed (symbol arity : ℕ) (cs : List Cell) : Type 0 where
+-- a clause has 1 to 32 cells, of at most 8 arguments each, and variables below 32
+pub record Formed (cs : List Cell) : Type 0 where
   pub some : 0 < length cs
   pub few : length cs ≤ 32
   pub low : All Low cs
   pub slim : All Slim cs
+
+-- a clause of a predicate: a head goal of that symbol and arity and 0 to 8 body goals, its variables numbered by first appearance
+pub record OfPredicate (symbol arity : ℕ) (cs : List Cell) : Type 0 where
+  pub formed : Formed cs
   pub body : ℕ
   pub goal_list : goals 0 0 cs ≡ Some (suc body)
   pub eight : body ≤ 8
   pub head : ((head_of cs).value ≡ symbol) × ((head_of cs).arity ≡ arity)
   pub in_order : InOrder 0 cs
+
+-- in each list of a source stand clauses of its predicate
+abbrev pub OfPredicates : (ℕ → ℕ → List (List Cell)) → Type 0
+OfPredicates lists = (p n k : ℕ) → k < length (lists p n) → OfPredicate p n (slice_index_or (lists p n) k [])
 
 -- what the call that writes a clause answers, and what it leaves in the slice
 abbrev pub Wrote : List (List Cell) → (number base at : ℕ) → (before after : List Cell) → Result ℕ Refusal → Type 0

@@ -1,5 +1,5 @@
 -- Two lists as one.
-use Rattle.std.specs.Prelude.{◌≡◌, ℕ, ◌+◌, ◌-◌, ◌<◌, ◌≤◌, min, Bool, true, false, cond, List, [], ◌∷◌, ◌++◌, length, get_or, nat_le, nat_lt, slice_index_or, refl}
+use Rattle.std.specs.Prelude.{◌≡◌, ℕ, ◌+◌, ◌-◌, ◌<◌, ◌≤◌, min, Bool, true, false, cond, List, [], ◌++◌, length, get_or, nat_le, nat_lt, slice_index_or, refl}
 use Rattle.std.proofs.Common.{ap, ◌∙◌, sym, subst, inl, inr, arith}
 use Rattle.std.proofs.lemmas.List.{length-take, length-append, get_or-take, get_or_append_left, get_or-append_right}
 use Rattle.std.proofs.lemmas.Bool.{cases_lt, leb-true, leb-false, ltb-true, ltb-false}
@@ -11,6 +11,9 @@ use Rattle.clauses.specs.Pairs.{joint, place_of, Placed}
 pub length_joint : {A : Type 0} (xs ys : List A) → length (joint xs ys) ≡ min 65535 (length xs + length ys)
 unfolding joint
 length_joint xs ys = length-take 65535 (xs ++ ys) ∙ ap (λ n. min 65535 n) (length-append xs ys)
+
+pub joint_short : {A : Type 0} (xs ys : List A) → length (joint xs ys) ≤ 65535
+joint_short xs ys = let l = length_joint xs ys in omega arith
 
 pub joint_left : {A : Type 0} (xs ys : List A) (k : ℕ) (d : A) → k < 65535 → k < length xs → slice_index_or (joint xs ys) k d ≡ slice_index_or xs k d
 unfolding joint

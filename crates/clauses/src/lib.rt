@@ -1,6 +1,8 @@
 // Sources of clauses: what a source means, and the renaming that keeps the variables of two uses of a clause apart.
+#![tactic(auto)]
+
 ghost use Rattle.std.specs.Prelude.{◌≡◌, ℕ, ◌<◌, ◌≤◌, List, [], length, slice_index_or};
-ghost use Rattle.clauses.specs.Clauses.{Wrote, Formed};
+ghost use Rattle.clauses.specs.Clauses.{Wrote, Formed, OfPredicates};
 ghost use Rattle.terms.specs.declared.Cell.{Cell as CellOf};
 
 use terms::Cell;
@@ -15,8 +17,7 @@ pub enum Refusal {
     ClauseNumber = 17,
 }
 
-// A source's meaning: for each predicate, which is a symbol and an arity, a list of clauses in order.
-// A clause is its head, a goal of that predicate, and 0 to 8 body goals, in at most 32 cells, with variables numbered from 0 by first appearance.
+// A source's meaning: for each predicate, which is a symbol and an arity, a list of clauses in order. A clause is its head and its body goals in cells.
 pub trait Source {
     ghost clauses: { Self → ℕ → ℕ → List (List CellOf) };
 
@@ -38,5 +39,11 @@ pub trait Source {
 
     ghost short: { (s : Self) (p n : ℕ) → length (clauses s p n) ≤ 65535 };
 
-    ghost formed: { (s : Self) (p n k : ℕ) → k < length (clauses s p n) → Formed p n (slice_index_or (clauses s p n) k []) };
+    ghost formed: { (s : Self) (p n k : ℕ) → k < length (clauses s p n) → Formed (slice_index_or (clauses s p n) k []) };
+}
+
+// A source whose lists spell a program: a clause is its head, a goal of its list's predicate, and 0 to 8 body goals, in at most 32 cells, with variables
+// numbered from 0 by first appearance.
+pub trait ProgramSource: Source {
+    ghost of_predicate: { (s : Self) → OfPredicates (Self.clauses s) };
 }

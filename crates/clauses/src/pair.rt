@@ -1,11 +1,10 @@
 // Two sources as one: of each predicate the first's clauses and then the second's, at most 65,535 of them.
 ghost use Rattle.std.specs.Prelude.{◌≡◌, ℕ, ◌-◌, ◌<◌, ◌≤◌, min, List, [], length};
 ghost use Rattle.clauses.specs.Pairs.{joint, place_of, Placed};
-ghost use Rattle.std.proofs.Common.{arith};
-ghost use Rattle.clauses.specs.PairsLemmas.{length_joint, joint_each};
-ghost use Rattle.clauses.specs.Clauses.{Formed};
+ghost use Rattle.clauses.specs.PairsLemmas.{joint_short, joint_each};
+ghost use Rattle.clauses.specs.Clauses.{Formed, OfPredicate};
 
-use crate::{Refusal, Source};
+use crate::{ProgramSource, Refusal, Source};
 use terms::Cell;
 
 #[derive(Drop)]
@@ -60,9 +59,9 @@ fn cut(count: usize) -> usize
 impl<A: Source, B: Source> Source for Pair<A, B> {
     ghost clauses = { λ s p n. joint (A.Source.clauses s.first p n) (B.Source.clauses s.second p n) };
 
-    ghost short = { λ s p n. omega (arith, length_joint (A.Source.clauses s.first p n) (B.Source.clauses s.second p n)) };
+    ghost short = { λ s p n. joint_short (A.Source.clauses s.first p n) (B.Source.clauses s.second p n) };
 
-    ghost formed = { λ s p n. joint_each (Formed p n) (A.Source.clauses s.first p n) (B.Source.clauses s.second p n) (A.Source.formed s.first p n) (B.Source.formed s.second p n) };
+    ghost formed = { λ s p n. joint_each Formed (A.Source.clauses s.first p n) (B.Source.clauses s.second p n) (A.Source.formed s.first p n) (B.Source.formed s.second p n) };
 
     fn count(&self, symbol: u32, arity: u8) -> usize {
         cut(self.first.count(symbol, arity) + self.second.count(symbol, arity))
@@ -83,4 +82,8 @@ impl<A: Source, B: Source> Source for Pair<A, B> {
             Place::Nowhere => Err(Refusal::ClauseNumber),
         }
     }
+}
+
+impl<A: ProgramSource, B: ProgramSource> ProgramSource for Pair<A, B> {
+    ghost of_predicate = { λ s p n. joint_each (OfPredicate p n) (A.Source.clauses s.first p n) (B.Source.clauses s.second p n) (A.ProgramSource.of_predicate s.first p n) (B.ProgramSource.of_predicate s.second p n) };
 }

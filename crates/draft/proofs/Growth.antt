@@ -1,5 +1,5 @@
 -- Reading never takes a cell away, and a head makes one.
-use Rattle.std.proofs.Common.{◌≡◌, ℕ, ◌+◌, ◌-◌, ◌<◌, ◌≤◌, Bool, true, false, cond, ◌&&◌, eqb, ltb, leb, ◌⊎◌, List, [], ◌∷◌, ◌++◌, length, get_or, Some, None, Ok, Err, Option, Result, sym, refl, ap, ◌∙◌, subst, inl, inr, arith}
+use Rattle.std.proofs.Common.{◌≡◌, ℕ, ◌-◌, ◌<◌, ◌≤◌, true, false, cond, ◌&&◌, eqb, ltb, leb, List, length, get_or, Some, None, Ok, Err, Option, Result, sym, refl, ap, ◌∙◌, subst, inl, inr, arith}
 use Rattle.std.proofs.lemmas.List.{length-set, length_push}
 use Rattle.std.proofs.lemmas.Bool.{cases_Bool, cond-true, cond-false, leb-true}
 use Rattle.terms.specs.declared.Cell.{Cell}
@@ -15,8 +15,8 @@ use Rattle.names.specs.declared.Span.{Span}
 use Rattle.draft.specs.declared.reader.Form.{Form}
 use Rattle.draft.specs.Drafts.{makes_cell, cell_of, span_of}
 use Rattle.draft.specs.Grammar.{after, goal_begins}
-use Rattle.draft.specs.Sketch.{Sketch, argued, argued_by, one_more, innermost, goaled, counted_as, celled, full, with_cell, valued, added, opened, opened_in, closed, necked, entered, entered_as, too_many, failed, goes_on, sized_in, fitting, taken, Reads, no_cell, with_arguments}
-use Rattle.draft.specs.Sketch.Reads.{no-token, misfit, last, more}
+use Rattle.draft.specs.Sketch.{Sketch, argued, argued_by, one_more, innermost, counted_as, celled, full, with_cell, valued, added, opened, opened_in, entered, entered_as, too_many, failed, goes_on, sized_in, fitting, taken, Reads, no_cell, with_arguments}
+use Rattle.draft.specs.Sketch.Reads.{no_token, misfit, last, more}
 
 argued_start : (s : Sketch) → (argued s).start ≡ s.start
 argued_start s =
@@ -154,7 +154,7 @@ taken_head text form d s s' t e =
 
 pub reads_grow : (text : List ℕ) (form : Form) (due : Due) (s s' : Sketch) (at end : ℕ) (r : Result (ℕ × Sketch) Fault)
     → Reads text form due s at r → r ≡ Ok (end, s') → (length s.cells ≤ length s'.cells) × (s'.start ≡ s.start)
-reads_grow text form due s s' at end r (no-token x) e = absurd (never _ (end, s') e)
+reads_grow text form due s s' at end r (no_token x) e = absurd (never _ (end, s') e)
 reads_grow text form due s s' at end r (misfit t x y) e = absurd (never _ (end, s') e)
 reads_grow text form due s s' at end r (last {s' = u} {end = m} t x y z) e =
     let p : ◌≡◌ {A = ℕ × Sketch} (m, u) (end, s') = cc in
@@ -169,7 +169,7 @@ reads_grow text form due s s' at end r (more {next = d} {s' = u} t x y z w) e =
 -- a clause has a head
 pub reads_head : (text : List ℕ) (form : Form) (s s' : Sketch) (at end : ℕ) (r : Result (ℕ × Sketch) Fault)
     → Reads text form Head s at r → r ≡ Ok (end, s') → 0 < length s'.cells
-reads_head text form s s' at end r (no-token x) e = absurd (never _ (end, s') e)
+reads_head text form s s' at end r (no_token x) e = absurd (never _ (end, s') e)
 reads_head text form s s' at end r (misfit t x y) e = absurd (never _ (end, s') e)
 reads_head text form s s' at end r (last {s' = u} {end = m} t x y z) e =
     let p : ◌≡◌ {A = ℕ × Sketch} (m, u) (end, s') = cc in

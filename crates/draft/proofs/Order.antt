@@ -1,5 +1,6 @@
 -- Variables in order of first appearance, with one cell more or another symbol in a symbol's place.
 use Rattle.std.proofs.Common.{◌≡◌, ℕ, zero, suc, ◌+◌, ◌≤◌, ◌&&◌, eqb, leb, List, [], ◌∷◌, ◌++◌, length, get_or, set, All, sym, refl, ap, ◌∙◌, subst, arith}
+use Rattle.std.proofs.lemmas.List.Elements.{All-nil, All-cons, All-head, All-tail}
 use Rattle.std.proofs.lemmas.Bool.{cond-false, cond_both, and_left, and_parts, eqb-true, ne_eqb}
 use Rattle.terms.specs.declared.Cell.{Cell}
 use Rattle.names.specs.declared.Span.{Span}
@@ -45,13 +46,13 @@ vars_in_most n (c ∷ cs) = let a = vars_most n c in let b = vars_in_most (vars_
 
 -- each variable is one of so many
 pub under_order : (n : ℕ) (cs : List Cell) → InOrder n cs → All (Under (vars_in n cs)) cs
-under_order n [] o = tt
+under_order n [] o = All-nil (Under (vars_in n []))
 under_order n (c ∷ cs) o =
-    (λ t. let a = vars_cell n c t (o.0 t) in let b = vars_in_up (vars_after n c) cs in omega arith, under_order (vars_after n c) cs o.1)
+    All-cons (Under (vars_in n (c ∷ cs))) c cs (λ t. let a = vars_cell n c t (o.0 t) in let b = vars_in_up (vars_after n c) cs in omega arith) (under_order (vars_after n c) cs o.1)
 
 low_under : (n : ℕ) (cs : List Cell) → n ≤ 32 → All (Under n) cs → All Low cs
-low_under n [] h w = tt
-low_under n (c ∷ cs) h w = (λ t. let a = w.0 t in omega arith, low_under n cs h w.1)
+low_under n [] h w = All-nil Low
+low_under n (c ∷ cs) h w = All-cons Low c cs (λ t. let a = All-head (Under n) c cs w t in omega arith) (low_under n cs h (All-tail (Under n) c cs w))
 
 -- at most 32 cells have variables below 32
 pub low_order : (cs : List Cell) → length cs ≤ 32 → InOrder 0 cs → All Low cs
@@ -64,5 +65,5 @@ same_under text w [] ss n a = omega arith
 same_under text w (c ∷ cs) [] n a = omega arith
 same_under text w (c ∷ cs) (s ∷ ss) n a =
     cond_both (is_variable text w c s) c.value (same_variable text w cs ss n) (λ x. x ≤ n)
-    (λ e. let b = a.0 (eqb-true c.tag 0 (and_parts (eqb c.tag 0) _ e).0) in omega arith)
-    (λ e. same_under text w cs ss n a.1)
+    (λ e. let b = All-head (Under n) c cs a (eqb-true c.tag 0 (and_parts (eqb c.tag 0) _ e).0) in omega arith)
+    (λ e. same_under text w cs ss n (All-tail (Under n) c cs a))

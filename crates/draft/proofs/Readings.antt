@@ -1,4 +1,4 @@
-use Rattle.std.proofs.Common.{◌≡◌, ℕ, ◌<◌, ◌≤◌, List, length, IfOk, Ok, Err, Result, sym, refl, ap, ◌∙◌, subst, MatchResult}
+use Rattle.std.proofs.Common.{◌≡◌, ℕ, ◌<◌, List, length, IfOk, Ok, Err, Result, sym, refl, ap, ◌∙◌, subst, MatchResult}
 use Rattle.lexis.specs.declared.fault.Fault.{Fault}
 use Rattle.draft.specs.declared.grammar.Due.{Due}
 use Rattle.draft.specs.declared.reader.Form.{Form}

@@ -1,5 +1,6 @@
 -- A clause or question that was read is a goal list.
 use Rattle.std.proofs.Common.{◌≡◌, ℕ, true, false, not, eqb, List, [], ◌∷◌, IfOk, Ok, Err, All, Result, sym, refl, ap, ◌∙◌, subst, inl, inr, arith}
+use Rattle.std.proofs.lemmas.List.Elements.{All-head, All-tail}
 use Rattle.std.proofs.lemmas.Bool.{cases_Bool, cond-true, eqb-true, lt-ltb, not_from_false, or_left, or_right}
 use Rattle.terms.specs.declared.Cell.{Cell}
 use Rattle.terms.specs.Shape.{low_cell, all_low}
@@ -11,7 +12,7 @@ use Rattle.draft.specs.declared.grammar.Due.TheVariants.{Head, GoalOrDot, Nothin
 use Rattle.draft.specs.declared.reader.Form.{Form}
 use Rattle.draft.specs.declared.reader.Form.TheVariants.{Clause, Question}
 use Rattle.draft.specs.Sketch.{Sketch, Reads, ReadsClause, GoalsRead, QuestionRead, Outcome, blank}
-use Rattle.draft.specs.Sketch.Reads.{no-token, misfit, last, more}
+use Rattle.draft.specs.Sketch.Reads.{no_token, misfit, last, more}
 use Rattle.draft.specs.Spelled.{Spelled}
 use Rattle.draft.proofs.Order.{low_order}
 use Rattle.draft.proofs.States.{State, Sound}
@@ -23,7 +24,7 @@ never e a h = let z : ◌≡◌ {A = ℕ} 0 1 = cc in omega arith
 
 reads_sound : (text : List ℕ) (form : Form) (h : ℕ) (due : Due) (s s' : Sketch) (at end : ℕ) (r : Result (ℕ × Sketch) Fault)
     → Reads text form due s at r → r ≡ Ok (end, s') → Sound h due s → Sound h Nothing s'
-reads_sound text form h due s s' at end r (no-token x) e i = absurd (never _ (end, s') e)
+reads_sound text form h due s s' at end r (no_token x) e i = absurd (never _ (end, s') e)
 reads_sound text form h due s s' at end r (misfit t x y) e i = absurd (never _ (end, s') e)
 reads_sound text form h due s s' at end r (last {s' = u} {end = m} t x y z) e i =
     let p : ◌≡◌ {A = ℕ × Sketch} (m, u) (end, s') = cc in
@@ -37,7 +38,7 @@ head_first s due x e = let z = (subst (λ d. State 1 d s) e x).0 in omega arith
 
 reads_within : (text : List ℕ) (due : Due) (s s' : Sketch) (at end : ℕ) (r : Result (ℕ × Sketch) Fault)
     → Reads text Clause due s at r → r ≡ Ok (end, s') → Sound 1 due s → s.over ≡ false → s'.over ≡ false
-reads_within text due s s' at end r (no-token x) e i o = absurd (never _ (end, s') e)
+reads_within text due s s' at end r (no_token x) e i o = absurd (never _ (end, s') e)
 reads_within text due s s' at end r (misfit t x y) e i o = absurd (never _ (end, s') e)
 reads_within text due s s' at end r (last {s' = u} {end = m} t x y z) e i o =
     let p : ◌≡◌ {A = ℕ × Sketch} (m, u) (end, s') = cc in
@@ -77,7 +78,7 @@ low_tested [] w = refl
 low_tested (c ∷ cs) w =
     cond-true (low_cell c) (all_low cs) false
     (elim (cases_Bool (eqb c.tag 0)) [
-      | inl a ↦ let v = w.0 (eqb-true c.tag 0 a) in or_right (not (eqb c.tag 0)) _ (lt-ltb c.value 32 (omega arith))
+      | inl a ↦ let v = All-head Low c cs w (eqb-true c.tag 0 a) in or_right (not (eqb c.tag 0)) _ (lt-ltb c.value 32 (omega arith))
       | inr a ↦ or_left (not (eqb c.tag 0)) _ (not_from_false (eqb c.tag 0) a)
     ])
-    ∙ low_tested cs w.1
+    ∙ low_tested cs (All-tail Low c cs w)

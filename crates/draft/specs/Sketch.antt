@@ -1,9 +1,9 @@
 -- A clause or question as far as it is read, and what each token adds to it.
-use Rattle.std.specs.Prelude.{◌≡◌, ℕ, suc, ◌+◌, ◌-◌, ◌<◌, ◌≤◌, min, Bool, true, false, cond, ◌&&◌, ◌||◌, List, [], ◌∷◌, ◌++◌, length, take, Some, None, Ok, Err, vec_items, Option, Result, ◌==◌, ◌≢◌, nat_le, nat_lt, slice_index_or, slice_set}
+use Rattle.std.specs.Prelude.{◌≡◌, ℕ, ◌+◌, ◌-◌, min, Bool, true, false, cond, ◌&&◌, ◌||◌, List, [], ◌∷◌, ◌++◌, length, take, Some, None, Ok, Err, vec_items, Option, Result, ◌==◌, ◌≢◌, nat_le, nat_lt, slice_index_or, slice_set}
 use Rattle.std.specs.Str.{bytes_eq}
 use Rattle.terms.specs.declared.Cell.{Cell}
 use Rattle.lexis.specs.Tokens.{token_at, start_at}
-use Rattle.lexis.specs.Worth.{word_of, worth_of}
+use Rattle.lexis.specs.Worth.{worth_of}
 use Rattle.lexis.specs.declared.fault.Fault.{Fault}
 use Rattle.lexis.specs.declared.fault.Cause.TheVariants.{Grammar, Size, Question as TooLarge}
 use Rattle.lexis.specs.declared.token.Token.{Token}

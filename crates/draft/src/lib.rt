@@ -1,4 +1,6 @@
 // One clause or question, as far as it is read.
+#![tactic(auto)]
+
 ghost use Rattle.std.specs.Prelude.{◌≡◌, ℕ, ◌<◌, ◌≤◌, vec_len, vec_capacity, slice_index_or};
 ghost use Rattle.terms.specs.declared.Cell.{Cell as CellOf};
 ghost use Rattle.clauses.specs.Clauses.{Slim};
@@ -35,7 +37,7 @@ pub struct Draft {
     ghost room: { (32 ≤ vec_capacity fresh) × (8192 ≤ vec_capacity brackets) },
     ghost few: { vec_len cells ≤ 32 },
     ghost level: { vec_len spans ≡ vec_len cells },
-    ghost new: { vec_len fresh ≤ 32 },
+    ghost few_fresh: { vec_len fresh ≤ 32 },
     ghost nested: { vec_len brackets ≤ 8192 },
     ghost numbered: { vars ≤ vec_len cells },
     ghost low: { (k : ℕ) (d : CellOf) → k < vec_len cells → Under vars (slice_index_or cells.items k d) },

@@ -1,4 +1,6 @@
 // Reads clauses and a question from standard input, and prints one line: what comes of the question.
+#![tactic(auto)]
+
 ghost use Rattle.std.specs.Prelude.{◌≤◌, length, IfOk};
 
 use line::{MOST_BYTES, line_for};

@@ -1,13 +1,13 @@
 -- What becomes of a node that has just been reached.
-use Rattle.std.proofs.Common.{◌≡◌, ℕ, zero, suc, ◌+◌, ◌-◌, ◌<◌, ◌≤◌, Bool, true, false, cond, not, ◌&&◌, ◌||◌, eqb, ltb, leb, List, [], ◌∷◌, ◌++◌, length, take, Some, None, Option, sym, refl, ap, ◌∙◌, subst, arith}
+use Rattle.std.proofs.Common.{◌≡◌, ℕ, ◌<◌, ◌≤◌, Bool, true, false, cond, not, ◌&&◌, ◌||◌, eqb, ltb, leb, List, [], ◌∷◌, length, take, Some, None, Option, sym, refl, ap, ◌∙◌, subst, arith}
 use mathlib.Core.Option as option
 use Rattle.std.proofs.lemmas.List.{length-take-le}
 use Rattle.std.proofs.lemmas.Bool.{leb-true, leb-false, eq-eqb, ne_eqb}
-use Rattle.typing.specs.Terms.{Eqs, Signature}
+use Rattle.typing.specs.Terms.{Signature}
 use Rattle.trees.specs.Tree.{Goal, Program}
 use Rattle.trees.specs.Summaries.{Summary, better, ◌⊕◌, at_success, at_failed, at_cut}
-use Rattle.trees.specs.Search.{Work, node, tries, Toward}
-use Rattle.trees.proofs.Toward.{toward-success, toward-failed, toward-cut}
+use Rattle.trees.specs.Search.{node, Toward}
+use Rattle.trees.proofs.Toward.{toward_success, toward_failed, toward_cut}
 use Rattle.unification.specs.declared.Outcome.{Outcome}
 use Rattle.unification.specs.declared.Outcome.TheVariants as outcome
 use Rattle.verdicts.specs.declared.ending.Left.TheVariants as left
@@ -16,12 +16,12 @@ use Rattle.verdicts.specs.declared.ending.Ending.{Ending}
 use Rattle.verdicts.specs.declared.ending.Ending.TheVariants.{Success, Untrue, Wrong, Cut, On}
 use Rattle.verdicts.specs.declared.ending.Leaves.{Leaves}
 use Rattle.verdicts.specs.declared.ending.Tally.{Tally}
-use Rattle.verdicts.specs.Leaves.{state_of, ending_of, shorter, least, noted}
+use Rattle.verdicts.specs.Leaves.{state_of, ending_of, shorter, least}
 use Rattle.frames.specs.declared.Frame.{Frame}
 use Rattle.frames.specs.declared.Node.{Node}
-use Rattle.frames.specs.Memory.{Memory, back, Marks}
-use Rattle.frames.specs.Goals.{Nth, Lists}
-use Rattle.frames.specs.Owed.{Reached, Lower, Owing, Owes, Kept, Tallied, Underway, Entering, Arrives, frame_at, frames_after, best_after, tally_after}
+use Rattle.frames.specs.Memory.{Memory, Marks}
+use Rattle.frames.specs.Goals.{Lists}
+use Rattle.frames.specs.Owed.{Reached, Owing, Owes, Kept, Tallied, Underway, Entering, Arrives, frame_at, frames_after, best_after, tally_after}
 use Rattle.frames.proofs.Memories.{back_here}
 
 better_none : (o : option.Option (List ℕ)) → better o option.none ≡ o
@@ -57,19 +57,19 @@ kept_success (Some j) (option.some p) k r trodden best l e h =
     (kept_shorter (ltb k j) k j r p trodden best l e h.0 h.1)
 
 module _ (t : Tally) (best : List ℕ) (a : Summary) (h : Tallied t best a) where
-  tallied-success : (k : ℕ) (r trodden : List ℕ) → length r ≡ k → take k trodden ≡ r
+  tallied_success : (k : ℕ) (r trodden : List ℕ) → length r ≡ k → take k trodden ≡ r
       → Tallied (tally_after Success t k) (best_after Success t.leaves k trodden best) (a ⊕ at_success r)
-  tallied-success k r trodden l e =
+  tallied_success k r trodden l e =
       let s = h.steps in
       record { steps = omega arith; uses = kept_success t.leaves.uses a.best k r trodden best l e h.uses; cut = or_false a.any_cut ∙ h.cut; wrong = and_false a.all_wrong }
 
-  tallied-failed : (k : ℕ) → Tallied (tally_after Untrue t k) best (a ⊕ at_failed)
-  tallied-failed k =
+  tallied_failed : (k : ℕ) → Tallied (tally_after Untrue t k) best (a ⊕ at_failed)
+  tallied_failed k =
       let s = h.steps in
       record { steps = omega arith; uses = subst (Kept t.leaves.uses best) (sym (better_none a.best)) h.uses; cut = or_false a.any_cut ∙ h.cut; wrong = and_false a.all_wrong }
 
-  tallied-cut : (k : ℕ) → Tallied (tally_after Cut t k) best (a ⊕ at_cut)
-  tallied-cut k =
+  tallied_cut : (k : ℕ) → Tallied (tally_after Cut t k) best (a ⊕ at_cut)
+  tallied_cut k =
       let s = h.steps in
       record { steps = omega arith; uses = subst (Kept t.leaves.uses best) (sym (better_none a.best)) h.uses; cut = or_true a.any_cut; wrong = and_false a.all_wrong }
 
@@ -83,8 +83,8 @@ module _ (home : Memory) (P : Program) (kind : Signature) (limit : ℕ) (whole :
   abbrev left_at : Left
   left_at = state_of (not (eqb n.goals 0)) n.step limit
 
-  on-nothing : (e : Entering home P kind limit whole m trodden best fs t n) → e.goals ≡ [] → left_at ≡ left.Nothing
-  on-nothing e none =
+  on_nothing : (e : Entering home P kind limit whole m trodden best fs t n) → e.goals ≡ [] → left_at ≡ left.Nothing
+  on_nothing e none =
       let z : n.goals ≡ 0 = subst (λ gs. Lists m.cells m.waiting n.goals gs) none e.reached.goals in
       ap (λ b. state_of (not b) n.step limit) (eq-eqb n.goals 0 z)
 
@@ -101,8 +101,8 @@ module _ (home : Memory) (P : Program) (kind : Signature) (limit : ℕ) (whole :
         sum = e.sum ⊕ at_success e.path;
         works = e.works;
         owes = e.owes;
-        tallied = tallied-success t best e.sum e.tallied n.step e.path trodden l path;
-        toward = toward-success P kind limit whole e.sum e.works e.path e.equations n.step
+        tallied = tallied_success t best e.sum e.tallied n.step e.path trodden l path;
+        toward = toward_success P kind limit whole e.sum e.works e.path e.equations n.step
             (subst (λ f. Toward P kind limit whole e.sum (node e.path f [] e.equations n.step ∷ e.works)) flag
             (subst (λ gs. Toward P kind limit whole e.sum (node e.path n.flag gs e.equations n.step ∷ e.works)) none e.toward));
       }
@@ -113,8 +113,8 @@ module _ (home : Memory) (P : Program) (kind : Signature) (limit : ℕ) (whole :
         sum = e.sum ⊕ at_failed;
         works = e.works;
         owes = e.owes;
-        tallied = tallied-failed t best e.sum e.tallied n.step;
-        toward = toward-failed P kind limit whole e.sum e.works e.path e.equations n.step
+        tallied = tallied_failed t best e.sum e.tallied n.step;
+        toward = toward_failed P kind limit whole e.sum e.works e.path e.equations n.step
             (subst (λ f. Toward P kind limit whole e.sum (node e.path f [] e.equations n.step ∷ e.works)) flag
             (subst (λ gs. Toward P kind limit whole e.sum (node e.path n.flag gs e.equations n.step ∷ e.works)) none e.toward));
       }
@@ -125,8 +125,8 @@ module _ (home : Memory) (P : Program) (kind : Signature) (limit : ℕ) (whole :
         sum = e.sum ⊕ at_cut;
         works = e.works;
         owes = e.owes;
-        tallied = tallied-cut t best e.sum e.tallied n.step;
-        toward = toward-cut P kind limit whole e.sum e.works e.path e.equations n.step n.flag g gs late
+        tallied = tallied_cut t best e.sum e.tallied n.step;
+        toward = toward_cut P kind limit whole e.sum e.works e.path e.equations n.step n.flag g gs late
             (subst (λ gs. Toward P kind limit whole e.sum (node e.path n.flag gs e.equations n.step ∷ e.works)) some e.toward);
       }
 
@@ -165,24 +165,24 @@ module _ (home : Memory) (P : Program) (kind : Signature) (limit : ℕ) (whole :
       by-limit g gs some false late outcome.Wrong i = absurd (right i)
 
       by : (gs : List Goal) → e.goals ≡ gs → After (ending_of n.flag left_at o)
-      by [] none = subst (λ l. After (ending_of n.flag l o)) (sym (on-nothing e none)) (by_flag n.flag refl none o refl)
+      by [] none = subst (λ l. After (ending_of n.flag l o)) (sym (on_nothing e none)) (by_flag n.flag refl none o refl)
       by (g ∷ gs) some = subst (λ l. After (ending_of n.flag l o)) (sym (on_some e g gs some)) (by-limit g gs some (leb limit n.step) refl o refl)
 
-  wrong-ends : (f : Bool) (l : Left) → ending_of f l outcome.Wrong ≡ Wrong
-  wrong-ends f left.Nothing = refl
-  wrong-ends f left.Cut = refl
-  wrong-ends f left.Goals = refl
+  wrong_ends : (f : Bool) (l : Left) → ending_of f l outcome.Wrong ≡ Wrong
+  wrong_ends f left.Nothing = refl
+  wrong_ends f left.Cut = refl
+  wrong_ends f left.Goals = refl
 
   pub arrived : (o : Outcome) (end : Ending) → end ≡ ending_of n.flag left_at o → Arrives home P kind limit whole m trodden best fs t n o → After end
   arrived outcome.Solved end e h = subst After (sym e) (entered outcome.Solved (λ i. let z : ◌≡◌ {A = ℕ} 0 1 = cc in omega arith) (λ i. absurd (let z : ◌≡◌ {A = ℕ} 0 1 = cc in omega arith)) h)
   arrived outcome.False end e h = subst After (sym e) (entered outcome.False (λ i. let z : ◌≡◌ {A = ℕ} 0 1 = cc in omega arith) (λ i. h.1) h.0)
-  arrived outcome.Wrong end e h = subst After (sym (e ∙ wrong-ends n.flag left_at)) h
+  arrived outcome.Wrong end e h = subst After (sym (e ∙ wrong_ends n.flag left_at)) h
 
   -- the same, where the parts are known by equations
-  pub arrived-to : (o : Outcome) (end : Ending) → end ≡ ending_of n.flag left_at o → (m' : Memory) (trodden' best' : List ℕ) (fs' : List Frame) (t' : Tally)
+  pub arrived_to : (o : Outcome) (end : Ending) → end ≡ ending_of n.flag left_at o → (m' : Memory) (trodden' best' : List ℕ) (fs' : List Frame) (t' : Tally)
       → m' ≡ m → trodden' ≡ trodden → best' ≡ best_after end t.leaves n.step trodden best → fs' ≡ frames_after end (frame_at m n) fs → t' ≡ tally_after end t n.step
       → Arrives home P kind limit whole m trodden best fs t n o → Underway home P kind limit whole m' trodden' best' fs' t'
-  arrived-to o end e m' trodden' best' fs' t' me te be fe le h =
+  arrived_to o end e m' trodden' best' fs' t' me te be fe le h =
       subst (λ x. Underway home P kind limit whole x trodden' best' fs' t') (sym me)
       (subst (λ x. Underway home P kind limit whole m x best' fs' t') (sym te)
       (subst (λ x. Underway home P kind limit whole m trodden x fs' t') (sym be)

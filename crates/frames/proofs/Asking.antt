@@ -1,8 +1,8 @@
 -- From the tally of the whole tree to the answer.
-use Rattle.std.proofs.Common.{◌≡◌, ℕ, zero, suc, ◌+◌, ◌*◌, ◌<◌, ◌≤◌, Bool, true, false, List, [], ◌∷◌, ◌++◌, length, get_or, take, drop, is_some, Some, None, Ok, Err, All, Option, Result, sym, refl, ap, ◌∙◌, subst, append-nil, arith, MatchResult}
+use Rattle.std.proofs.Common.{◌≡◌, ℕ, ◌<◌, ◌≤◌, Bool, true, false, List, [], ◌∷◌, ◌++◌, length, get_or, take, drop, is_some, Some, None, Ok, Err, Option, Result, sym, refl, ap, ◌∙◌, subst, append-nil, arith, MatchResult}
 use mathlib.Core.Option as option
 use native.Mathlib.Decide.{dec_le}
-use Rattle.std.proofs.lemmas.List.{take-append-drop, take_at, drop_at, length-append}
+use Rattle.std.proofs.lemmas.List.{take-append-drop, take_at, drop_at}
 use Rattle.graphs.specs.Links.{restore, Logged}
 use Rattle.graphs.proofs.Lists.{logged_none}
 use Rattle.frames.specs.declared.Waiting.{Waiting}
@@ -11,18 +11,18 @@ use Rattle.frames.proofs.Listing.{later_of}
 use Rattle.terms.specs.declared.Cell.{Cell}
 use Rattle.terms.specs.Shape.{goals, all_low}
 use Rattle.typing.specs.Terms.{Eqs, Signature}
-use Rattle.trees.specs.Terms.{EqsBelow, Solvable}
+use Rattle.trees.specs.Terms.{EqsBelow}
 use Rattle.trees.specs.Tree.{Goal, Program, Small, GoalsBelow, Tree, IsTree, Succeeds, steps}
 use Rattle.trees.specs.Proofs.{uses}
-use Rattle.trees.specs.Verdicts.{Verdict, VerdictOf, Told}
-use Rattle.trees.specs.Summaries.{Summary, Best, chosen, summary, Summed, nothing}
+use Rattle.trees.specs.Verdicts.{VerdictOf, Told}
+use Rattle.trees.specs.Summaries.{Best, chosen, summary, nothing}
 use Rattle.trees.specs.Search.{node, Toward}
 use Rattle.trees.specs.Claims.{Question}
 use Rattle.trees.proofs.Claims.{every_tree, holds_is_proof, told_is_best}
 use Rattle.trees.proofs.Summaries.{summed}
 use Rattle.trees.proofs.Toward.{toward_start}
 use Rattle.graphs.specs.Whole.{Whole}
-use Rattle.clauses.specs.Clauses.{Formed}
+use Rattle.clauses.specs.Clauses.{OfPredicate}
 use Rattle.programs.specs.Spelling.{spell_goals, Spells}
 use Rattle.programs.proofs.Parsing.{parse_goals}
 use Rattle.programs.proofs.Programs.{program_of}
@@ -35,15 +35,14 @@ use Rattle.verdicts.specs.declared.Refusal.{Refusal}
 use Rattle.verdicts.specs.declared.Refusal.TheVariants.{Allowance}
 use Rattle.verdicts.specs.declared.Verdict.TheVariants as verdict
 use Rattle.verdicts.specs.declared.Verdict as told
-use Rattle.verdicts.specs.declared.ending.Leaves.{Leaves}
 use Rattle.verdicts.specs.declared.ending.Tally.{Tally}
 use Rattle.verdicts.specs.Leaves.{verdict_of, verdict_by}
 use Rattle.frames.specs.declared.Frame.{Frame}
 use Rattle.frames.specs.declared.Node.{Node}
 use Rattle.frames.specs.Memory.{Memory, Grown, Marks}
 use Rattle.frames.specs.Goals.{Lists}
-use Rattle.frames.specs.Owed.{Reached, Kept, Tallied, Underway, Entering}
-use Rattle.frames.specs.Asked.{PathBy, Sized, Shows, Tells, Chain, Proves, Proven, Answered}
+use Rattle.frames.specs.Owed.{Kept, Tallied, Entering}
+use Rattle.frames.specs.Asked.{PathBy, Shows, Tells, Chain, Proves, Proven, Answered}
 
 -- the root, before anything is counted
 pub entering_root : (home : Memory) (P : Program) (kind : Signature) (limit : ℕ) (gs : List Goal) (E : Eqs) (t : Tree) (m : Memory) (trodden best : List ℕ) (n : Node) (none : Tally)
@@ -102,8 +101,8 @@ pub counted_steps : (t : Tree) (tally : Tally) (best : List ℕ) → Tallied tal
 counted_steps t tally best h = sym h.steps ∙ (summed t).edges
 
 -- a source's lists spell one program, and a judged question its goals
-pub program_read : (lists : ℕ → ℕ → List (List Cell)) → ((s a k : ℕ) → k < length (lists s a) → Formed s a (get_or (lists s a) k [])) → (P : Program) × Spells P lists × Small P
-program_read lists formed = program_of lists (λ s a k h. ((formed s a k h).body, (formed s a k h).goal_list)) (λ s a k h. (formed s a k h).low)
+pub program_read : (lists : ℕ → ℕ → List (List Cell)) → ((s a k : ℕ) → k < length (lists s a) → OfPredicate s a (get_or (lists s a) k [])) → (P : Program) × Spells P lists × Small P
+program_read lists formed = program_of lists (λ s a k h. ((formed s a k h).body, (formed s a k h).goal_list)) (λ s a k h. (formed s a k h).formed.low)
 
 pub goals_read : (question : List Cell) → is_some (goals 0 0 question) ≡ true → all_low question ≡ true → (gs : List Goal) × (question ≡ spell_goals gs) × GoalsBelow 32 gs
 goals_read question list low = go (goals 0 0 question) refl list
@@ -116,15 +115,15 @@ goals_read question list low = go (goals 0 0 question) refl list
 
 module _ (P : Program) (kind : Signature) (limit : ℕ) (gs : List Goal) (E : Eqs) (t : Tree) (question : Question P kind limit gs E t) where
   -- no success is no chain within the limit
-  no-chain : ¬ ((p : List ℕ) × Succeeds t p) → (c : Chain P gs E) → limit < uses c.proof
-  no-chain none c = go (dec_le (uses c.proof) limit)
+  no_chain : ¬ ((p : List ℕ) × Succeeds t p) → (c : Chain P gs E) → limit < uses c.proof
+  no_chain none c = go (dec_le (uses c.proof) limit)
     where
       go : Dec (uses c.proof ≤ limit) → limit < uses c.proof
       go (yes l) = absurd (none ((holds_is_proof P kind limit gs E t question).1 (c.terms, c.alike, (c.proof, l))))
       go (no l) = omega arith
 
-  best-chain : (n : ℕ) (before after p : List ℕ) → Told t p → length p ≡ n → after ≡ p ++ drop n before → Proves (verdict.Holds n) P gs E limit after
-  best-chain n before after p told long at =
+  best_chain : (n : ℕ) (before after p : List ℕ) → Told t p → length p ≡ n → after ≡ p ++ drop n before → Proves (verdict.Holds n) P gs E limit after
+  best_chain n before after p told long at =
       let b = told_is_best P kind limit gs E t p question told in
       let w = (holds_is_proof P kind limit gs E t question).0 (p, told.0) in
       let short = (b.1 w.0 w.1 w.2.0).1 in let within = w.2.1 in
@@ -132,13 +131,13 @@ module _ (P : Program) (kind : Signature) (limit : ℕ) (gs : List Goal) (E : Eq
       ((c, b.0.2.2 ∙ long, b.0.2.1 ∙ sym (ap (take n) at ∙ take_at p (drop n before) n long), omega arith), λ d. let l = (b.1 d.terms d.alike d.proof).1 in omega arith)
 
   pub proves : (v : told.Verdict) (before after : List ℕ) → Shows v t before after → Proves v P gs E limit after
-  proves (verdict.Holds n) before after h = best-chain n before after h.0 h.1 h.2 h.3
-  proves verdict.Fails before after h = no-chain h.0.0
-  proves verdict.Erroneous before after h = no-chain h.0.0
-  proves verdict.Unsettled before after h = no-chain h.0.0
+  proves (verdict.Holds n) before after h = best_chain n before after h.0 h.1 h.2 h.3
+  proves verdict.Fails before after h = no_chain h.0.0
+  proves verdict.Erroneous before after h = no_chain h.0.0
+  proves verdict.Unsettled before after h = no_chain h.0.0
 
 -- the answer, from what the walk tallied of whatever tree the question has
-module _ (lists : ℕ → ℕ → List (List Cell)) (formed : (s a k : ℕ) → k < length (lists s a) → Formed s a (get_or (lists s a) k [])) (kind : Signature) (limit allowance : ℕ)
+module _ (lists : ℕ → ℕ → List (List Cell)) (formed : (s a k : ℕ) → k < length (lists s a) → OfPredicate s a (get_or (lists s a) k [])) (kind : Signature) (limit allowance : ℕ)
     (question : List Cell) (list : is_some (goals 0 0 question) ≡ true) (low : all_low question ≡ true) (cs : List Cell) (l : List ℕ) (E : Eqs) (small : length cs ≤ 1568) (standing : Standing kind cs l E)
     (before after : List ℕ) where
   abbrev P : Program
@@ -154,11 +153,11 @@ module _ (lists : ℕ → ℕ → List (List Cell)) (formed : (s a k : ℕ) → 
   answered r told proven =
       record { program = P; spells = (program_read lists formed).1; goals = gs; spelt = (goals_read question list low).1; tree = tree; is_tree = (every_tree P kind limit true gs E 0).1; told = told; proven = proven }
 
-  pub answered-ok : (tally : Tally) (best : List ℕ)
+  pub answered_ok : (tally : Tally) (best : List ℕ)
       → ((Q : Program) (hs : List Goal) (t : Tree) → Spells Q lists → question ≡ spell_goals hs → IsTree Q kind limit true hs E 0 t → Tallied tally best (summary [] t))
       → tally.steps ≤ allowance → Wrote (verdict_of tally.leaves) best before after
       → Answered lists kind limit allowance question E before after (Ok (record { verdict = verdict_of tally.leaves; steps = tally.steps }))
-  answered-ok tally best tallied within wrote =
+  answered_ok tally best tallied within wrote =
       let h = tallied P gs tree (program_read lists formed).1 (goals_read question list low).1 (every_tree P kind limit true gs E 0).1 in
       let s = counted_steps tree tally best h in
       let v = shown tree tally best before after h wrote in
@@ -168,19 +167,19 @@ module _ (lists : ℕ → ℕ → List (List Cell)) (formed : (s a k : ℕ) → 
       (record { small = (program_read lists formed).2; equations = below; goals = (goals_read question list low).2; solvable = standing_solvable kind cs l E small standing; tree = (every_tree P kind limit true gs E 0).1 })
       (verdict_of tally.leaves) before after v)
 
-  pub answered-err : ((Q : Program) (hs : List Goal) (t : Tree) → Spells Q lists → question ≡ spell_goals hs → IsTree Q kind limit true hs E 0 t → allowance < steps t)
+  pub answered_err : ((Q : Program) (hs : List Goal) (t : Tree) → Spells Q lists → question ≡ spell_goals hs → IsTree Q kind limit true hs E 0 t → allowance < steps t)
       → after ≡ before → Answered lists kind limit allowance question E before after (Err Allowance)
-  answered-err more same =
+  answered_err more same =
       answered (Err Allowance) (refl, more P gs tree (program_read lists formed).1 (goals_read question list low).1 (every_tree P kind limit true gs E 0).1, same) (λ below. tt)
 
 -- the question's cells and goals come after what stood
 module _ (home : Memory) (question : List Cell) (gs : List Goal) (spelt : question ≡ spell_goals gs) (cs : List Cell) (l t : List ℕ) (ws : List Waiting) (place k r : ℕ)
     (cells : cs ≡ home.cells ++ question) (links : l ≡ home.links) (trail : t ≡ home.trail) (kept : take k ws ≡ home.waiting) (at : place ≡ length home.cells) where
-  abbrev root-memory : Memory
-  root-memory = record { cells = cs; links = l; trail = t; waiting = ws }
+  abbrev root_memory : Memory
+  root_memory = record { cells = cs; links = l; trail = t; waiting = ws }
 
-  pub root-grown : Grown home root-memory
-  root-grown =
+  pub root_grown : Grown home root_memory
+  root_grown =
       record {
         more = question;
         cells = cells;
@@ -189,13 +188,13 @@ module _ (home : Memory) (question : List Cell) (gs : List Goal) (spelt : questi
         waiting = later_of k home.waiting ws kept;
       }
 
-  pub root-standing : (kind : Signature) (E : Eqs) → length cs ≤ 1568 → Standing kind home.cells home.links E → Standing kind cs l E
-  root-standing kind E small s =
+  pub root_standing : (kind : Signature) (E : Eqs) → length cs ≤ 1568 → Standing kind home.cells home.links E → Standing kind cs l E
+  root_standing kind E small s =
       subst (λ x. Standing kind cs x E) (sym links)
       (subst (λ x. Standing kind x home.links E) (sym cells) (standing_question kind home.cells question home.links E gs (let z = ap length cells in omega arith) spelt s))
 
-  pub root-listed : ((bs hs : List Goal) → drop place cs ≡ spell_goals bs → Lists cs home.waiting 0 hs → Lists cs ws r (bs ++ hs)) → Lists cs ws r gs
-  root-listed lists =
+  pub root_listed : ((bs hs : List Goal) → drop place cs ≡ spell_goals bs → Lists cs home.waiting 0 hs → Lists cs ws r (bs ++ hs)) → Lists cs ws r gs
+  root_listed lists =
       subst (Lists cs ws r) (append-nil gs)
       (lists gs [] (ap (λ n. drop n cs) at ∙ (ap (drop (length home.cells)) cells ∙ (drop_at home.cells question (length home.cells) refl ∙ spelt))) refl)
 
@@ -220,7 +219,7 @@ wrote_other verdict.Erroneous best before h = refl
 wrote_other verdict.Unsettled best before h = refl
 
 -- what holds whatever the program, the goals and the tree, holds, since there are such
-pub some_question : (lists : ℕ → ℕ → List (List Cell)) → ((s a k : ℕ) → k < length (lists s a) → Formed s a (get_or (lists s a) k [])) → (kind : Signature) (limit : ℕ) (question : List Cell)
+pub some_question : (lists : ℕ → ℕ → List (List Cell)) → ((s a k : ℕ) → k < length (lists s a) → OfPredicate s a (get_or (lists s a) k [])) → (kind : Signature) (limit : ℕ) (question : List Cell)
     → is_some (goals 0 0 question) ≡ true → all_low question ≡ true → (E : Eqs) (X : Type 0)
     → ((Q : Program) (hs : List Goal) (t : Tree) → Spells Q lists → question ≡ spell_goals hs → IsTree Q kind limit true hs E 0 t → X) → X
 some_question lists formed kind limit question list low E X f =

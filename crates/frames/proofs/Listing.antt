@@ -1,8 +1,7 @@
 -- Goals that are put before a list.
-use Rattle.std.proofs.Common.{◌≡◌, ℕ, zero, suc, ◌+◌, ◌-◌, ◌<◌, ◌≤◌, List, [], ◌∷◌, ◌++◌, length, get_or, take, drop, sym, refl, ap, ◌∙◌, subst, append-nil, arith}
+use Rattle.std.proofs.Common.{◌≡◌, ℕ, ◌+◌, ◌-◌, ◌<◌, ◌≤◌, List, [], ◌∷◌, ◌++◌, length, get_or, take, drop, sym, ap, ◌∙◌, subst, append-nil, arith}
 use Rattle.std.proofs.lemmas.List.{get_or_push, length_push, length-drop, length-append, take-append-drop}
 use Rattle.terms.specs.declared.Cell.{Cell}
-use Rattle.typing.specs.Terms.{fun}
 use Rattle.trees.specs.Tree.{Goal}
 use Rattle.graphs.specs.Cells.{after}
 use Rattle.programs.specs.Spelling.{spell_goal, spell_goals}

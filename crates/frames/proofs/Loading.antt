@@ -1,5 +1,6 @@
 -- A clause with its variables made new fits among the cells.
-use Rattle.std.proofs.Common.{◌≡◌, ℕ, zero, suc, ◌+◌, ◌-◌, ◌*◌, ◌<◌, ◌≤◌, Bool, true, false, cond, ◌&&◌, eqb, ltb, leb, List, [], ◌∷◌, ◌++◌, length, get_or, take, drop, Some, None, All, Option, sym, refl, ap, ◌∙◌, subst, arith}
+use Rattle.std.proofs.Common.{◌≡◌, ℕ, ◌+◌, ◌-◌, ◌*◌, ◌<◌, ◌≤◌, Bool, true, false, cond, ◌&&◌, eqb, ltb, leb, List, [], ◌∷◌, ◌++◌, length, get_or, take, Some, None, All, Option, sym, refl, ap, ◌∙◌, subst, arith}
+use Rattle.std.proofs.lemmas.List.Elements.{All-head, All-tail}
 use native.Mathlib.Decide.{ℕ_discrete}
 use Rattle.std.proofs.lemmas.List.{take-append-le, take_all, length-append}
 use Rattle.std.proofs.lemmas.Bool.{eqb-true, le-leb, lt-ltb, cond-true}
@@ -8,7 +9,7 @@ use Rattle.clauses.specs.Clauses.{raised, renamed, spliced, Low, Slim, Formed}
 use Rattle.clauses.proofs.Renaming.{raised_var, raised_other, length_renamed}
 use Rattle.graphs.specs.Cells.{fits, all_fit}
 use Rattle.unification.specs.State.{takes}
-use Rattle.frames.specs.Frames.{cells_at, Fetched, Stands}
+use Rattle.frames.specs.Frames.{cells_at, Fetched}
 
 pub and_true : (a b : Bool) → a ≡ true → b ≡ true → (a && b) ≡ true
 and_true true b p q = q
@@ -33,7 +34,7 @@ fits_raised b c h l s = go (ℕ_discrete c.tag 0)
 fit_renamed : (b : ℕ) (cs : List Cell) → b ≤ 1024 → All Low cs → All Slim cs → all_fit (renamed b cs) ≡ true
 unfolding renamed
 fit_renamed b [] h l s = refl
-fit_renamed b (c ∷ cs) h l s = and_true (fits (raised b c)) _ (fits_raised b c h l.0 s.0) (fit_renamed b cs h l.1 s.1)
+fit_renamed b (c ∷ cs) h l s = and_true (fits (raised b c)) _ (fits_raised b c h (All-head Low c cs l) (All-head Slim c cs s)) (fit_renamed b cs h (All-tail Low c cs l) (All-tail Slim c cs s))
 
 -- what was written at the start of a slice
 front : (n : ℕ) (xs ys zs : List Cell) → n ≡ length ys → zs ≡ spliced xs 0 ys → take (n - 0) zs ≡ ys
@@ -44,7 +45,7 @@ front n xs ys zs e h =
 
 -- it is appended
 pub fetched : (symbol arity : ℕ) (list : List (List Cell)) (clause step n : ℕ) (cells cells' buffer buffer' : List Cell) (r : Option ℕ)
-    → step < 32 → length cells ≤ cells_at step → length list ≤ 65535 → Formed symbol arity (get_or list clause [])
+    → step < 32 → length cells ≤ cells_at step → length list ≤ 65535 → Formed (get_or list clause [])
     → clause < length list → n ≡ length (get_or list clause []) → (base₀ : ℕ) → base₀ ≡ 32 + 32 * step → buffer' ≡ spliced buffer 0 (renamed base₀ (get_or list clause []))
     → r ≡ cond (takes cells (take (n - 0) buffer')) (Some (length cells)) None
     → cells' ≡ cond (takes cells (take (n - 0) buffer')) (cells ++ take (n - 0) buffer') cells

@@ -1,12 +1,12 @@
 -- Going back from what has grown; goal lists in what has grown; frames whose branch is written on.
-use Rattle.std.proofs.Common.{◌≡◌, ℕ, suc, ◌+◌, ◌-◌, ◌<◌, ◌≤◌, Bool, true, List, [], ◌∷◌, ◌++◌, length, get_or, take, drop, set, sym, refl, ap, ◌∙◌, subst, append_assoc, append-nil, arith}
+use Rattle.std.proofs.Common.{◌≡◌, ℕ, suc, ◌-◌, ◌<◌, ◌≤◌, List, [], ◌∷◌, ◌++◌, length, take, drop, set, sym, refl, ap, ◌∙◌, append_assoc, append-nil, arith}
 use Rattle.std.proofs.lemmas.List.{take_at, take-set-le, drop-append-le, get_or_append_left, length-append, length-drop}
 use Rattle.terms.specs.declared.Cell.{Cell}
 use Rattle.typing.specs.Terms.{Term, var, con, fun, Eqs, Signature}
 use Rattle.trees.specs.Tree.{Goal, Program}
 use Rattle.trees.specs.Search.{Work}
 use Rattle.graphs.specs.Flat.{flat, Stands}
-use Rattle.graphs.specs.Links.{restore, Logged}
+use Rattle.graphs.specs.Links.{restore}
 use Rattle.graphs.proofs.Lists.{logged_none, logged_trans}
 use Rattle.frames.specs.declared.Waiting.{Waiting}
 use Rattle.frames.specs.declared.Frame.{Frame}

@@ -1,5 +1,6 @@
 -- A question that has been judged fits among the cells.
-use Rattle.std.proofs.Common.{◌≡◌, ℕ, zero, suc, ◌+◌, ◌-◌, ◌*◌, ◌<◌, ◌≤◌, Bool, true, false, cond, not, ◌&&◌, ◌||◌, eqb, ltb, leb, List, [], ◌∷◌, ◌++◌, length, take, drop, is_some, Some, None, All, Option, sym, refl, ap, ◌∙◌, subst, arith}
+use Rattle.std.proofs.Common.{◌≡◌, ℕ, zero, suc, ◌+◌, ◌-◌, ◌≤◌, Bool, true, false, cond, not, ◌&&◌, ◌||◌, eqb, ltb, leb, List, [], ◌∷◌, ◌++◌, length, take, drop, is_some, Some, None, All, Option, refl, ap, ◌∙◌, arith}
+use Rattle.std.proofs.lemmas.List.Elements.{All-head, All-tail}
 use Rattle.std.proofs.lemmas.List.{take-append-le, drop-append-le, take_all, drop_all, length-append, length-take-le}
 use Rattle.std.proofs.lemmas.Bool.{eqb-true, ltb-true, ltb-false, le-leb, lt-ltb, cond-true}
 use Rattle.clauses.specs.Clauses.{Low}
@@ -121,10 +122,10 @@ some_place o p n a b = cc
 -- a goal list of at most 8 goals and 32 cells over the variables 0 to 31 is not refused
 all_low_lem : (cs : List Cell) → All Low cs → all_low cs ≡ true
 all_low_lem [] h = refl
-all_low_lem (c ∷ cs) h = ap (λ b. cond b (all_low cs) false) (low (eqb c.tag 0) refl) ∙ all_low_lem cs h.1
+all_low_lem (c ∷ cs) h = ap (λ b. cond b (all_low cs) false) (low (eqb c.tag 0) refl) ∙ all_low_lem cs (All-tail Low c cs h)
   where
     low : (b : Bool) → eqb c.tag 0 ≡ b → (not b || ltb c.value 32) ≡ true
-    low true e = lt-ltb c.value 32 (let v = h.0 (eqb-true c.tag 0 e) in omega arith)
+    low true e = lt-ltb c.value 32 (let v = All-head Low c cs h (eqb-true c.tag 0 e) in omega arith)
     low false e = refl
 
 ltb_no : (a b : ℕ) → b ≤ a → ltb a b ≡ false

@@ -1,6 +1,6 @@
 -- Lengths after a list is cut or grows.
-use Rattle.std.proofs.Common.{◌≡◌, ℕ, ◌+◌, ◌-◌, ◌*◌, ◌<◌, ◌≤◌, min, List, [], ◌∷◌, ◌++◌, length, take, Some, None, Option, sym, refl, ap, ◌∙◌, subst, arith, MatchOption}
-use Rattle.std.proofs.lemmas.List.{length-take, take_all, take-append-le, length-append}
+use Rattle.std.proofs.Common.{◌≡◌, ℕ, ◌≤◌, min, List, ◌++◌, length, take, Some, None, Option, sym, ap, ◌∙◌, subst, arith, MatchOption}
+use Rattle.std.proofs.lemmas.List.{length-take, take_all, take-append-le}
 
 -- what was kept at the front stays there when more is added
 pub take_kept : {A : Type 0} (n : ℕ) (xs ys zs : List A) → n ≡ length xs → take n ys ≡ xs → take n (ys ++ zs) ≡ xs

@@ -1,18 +1,16 @@
 -- A step from the newest frame is a move of the search toward its tree.
-use Rattle.std.proofs.Common.{◌≡◌, ℕ, zero, suc, ◌+◌, ◌-◌, ◌*◌, ◌<◌, ◌≤◌, Bool, true, false, cond, ◌&&◌, ◌||◌, ltb, List, [], ◌∷◌, ◌++◌, length, get_or, take, drop, set, Some, None, Option, sym, refl, ap, ◌∙◌, subst, append-nil, add-one, arith}
+use Rattle.std.proofs.Common.{◌≡◌, ℕ, zero, suc, ◌+◌, ◌-◌, ◌<◌, ◌≤◌, Bool, true, false, ◌&&◌, ◌||◌, ltb, List, [], ◌∷◌, ◌++◌, length, get_or, take, drop, set, Some, None, Option, sym, refl, ap, ◌∙◌, subst, append-nil, add-one, arith}
 use mathlib.Core.Option as option
-use Rattle.std.proofs.lemmas.List.{get_or_default, take_more_set, drop_at, length-append}
+use Rattle.std.proofs.lemmas.List.{get_or_default, take_more_set, drop_at}
 use Rattle.std.proofs.lemmas.Bool.{lt-ltb, cond-true}
 use Rattle.terms.specs.declared.Cell.{Cell}
-use Rattle.typing.specs.Terms.{Term, fun, ◌≈◌, Eqs, Signature, arity}
-use Rattle.typing.specs.Rules as rules
+use Rattle.typing.specs.Terms.{Term, fun, Eqs, Signature, arity}
 use Rattle.trees.specs.Tree.{Goal, Clause, Program, listed, fresh, new_head, new_body, with_head}
 use Rattle.trees.specs.Summaries.{Summary, better, ◌⊕◌, tick}
 use Rattle.trees.specs.Search.{Work, node, tries, Toward}
-use Rattle.trees.proofs.Toward.{toward-goal, toward-done, toward-dropped, toward-wrong, toward-false, toward-solved, counts-node, counts-tries}
-use Rattle.graphs.specs.Cells.{blank, after}
+use Rattle.trees.proofs.Toward.{toward_goal, toward_done, toward_dropped, toward_wrong, toward_false, toward_solved, counts_node, counts_tries}
+use Rattle.graphs.specs.Cells.{blank}
 use Rattle.graphs.specs.Flat.{Stands}
-use Rattle.graphs.specs.Whole.{Whole}
 use Rattle.graphs.proofs.Lists.{logged_none}
 use Rattle.clauses.specs.Clauses.{renamed}
 use Rattle.programs.specs.Spelling.{spell_goal, spell_goals, spell_clause, Spells}
@@ -22,19 +20,18 @@ use Rattle.programs.proofs.Sources.{spelt_clause, spelt_none, spelt_length}
 use Rattle.programs.proofs.Wholes.{whole_goal_goals}
 use Rattle.unification.specs.declared.Outcome.{Outcome}
 use Rattle.unification.specs.declared.Outcome.TheVariants as outcome
-use Rattle.unification.specs.Standing.{Standing, Unified, named}
+use Rattle.unification.specs.Standing.{Standing}
 use Rattle.unification.proofs.Standing.{standing_grow}
 use Rattle.verdicts.specs.declared.ending.Tally.{Tally}
 use Rattle.frames.specs.declared.Waiting.{Waiting}
 use Rattle.frames.specs.declared.Frame.{Frame}
 use Rattle.frames.specs.declared.Node.{Node}
 use Rattle.frames.specs.Frames.{list_at, Fetched, trodden_after}
-use Rattle.frames.specs.Frames as frames
-use Rattle.frames.specs.Memory.{Memory, back, rolled, Grown, Marks}
+use Rattle.frames.specs.Memory.{Memory, back, rolled, Grown}
 use Rattle.frames.specs.Goals.{Nth, Lists}
-use Rattle.frames.specs.Owed.{work_from, Reached, Lower, Owing, Owes, Kept, Tallied, Underway, Entering, Arrives, one_more}
+use Rattle.frames.specs.Owed.{work_from, Lower, Owing, Owes, Kept, Tallied, Underway, Entering, Arrives, one_more}
 use Rattle.frames.specs.Steps.{with_cells, next_clause, dropped, Told, TakenUp, Resolved}
-use Rattle.frames.proofs.Memories.{grown_same, grown_trans, back_grown, rolled_grown, stands_grown, lists_grown, owing_set, owes_set, lower_more}
+use Rattle.frames.proofs.Memories.{grown_same, grown_trans, back_grown, rolled_grown, stands_grown, lists_grown, owes_set, lower_more}
 
 false_premise : {A : Type 0} (x y : Option A) (a : A) → x ≡ None → x ≡ Some a → ⊥
 false_premise x y a p q = let z : ◌≡◌ {A = ℕ} 0 1 = cc in omega arith
@@ -64,10 +61,10 @@ tallied_more t best a h =
 
 module _ (home : Memory) (P : Program) (kind : Signature) (limit : ℕ) (whole : Summary) (lists : ℕ → ℕ → List (List Cell)) (spells : Spells P lists) where
   -- a frame at its clause number i has the clauses from i on to try
-  to-tries : (i : ℕ) (a : Summary) (ws : List Work) (r : List ℕ) (f : Bool) (g : Goal) (gs : List Goal) (E : Eqs) (k : ℕ) → k < limit → i < length (listed P g)
+  to_tries : (i : ℕ) (a : Summary) (ws : List Work) (r : List ℕ) (f : Bool) (g : Goal) (gs : List Goal) (E : Eqs) (k : ℕ) → k < limit → i < length (listed P g)
       → Toward P kind limit whole a (work_from P i r f g gs E k ∷ ws) → Toward P kind limit whole a (tries r i f g gs E k (drop i (listed P g)) ∷ ws)
-  to-tries zero a ws r f g gs E k early many t = toward-goal P kind limit whole a ws r E k f g gs early (λ e. let z = ap length e in omega arith) t
-  to-tries (suc i) a ws r f g gs E k early many t = t
+  to_tries zero a ws r f g gs E k early many t = toward_goal P kind limit whole a ws r E k f g gs early (λ e. let z = ap length e in omega arith) t
+  to_tries (suc i) a ws r f g gs E k early many t = t
 
   module _ (m : Memory) (f : Frame) (fs : List Frame) (w₀ : Work) (ws : List Work) (trodden best : List ℕ) (t : Tally) (a : Summary)
       (owing : Owing home P kind limit trodden m f w₀) (low : Lower f.node.step fs) (owes : Owes home P kind limit trodden m fs ws) (tallied : Tallied t best a)
@@ -94,24 +91,24 @@ module _ (home : Memory) (P : Program) (kind : Signature) (limit : ℕ) (whole :
     abbrev flag : Bool
     flag = f.node.flag
 
-    same-goal : owing.reached.goals.0 ≡ w
-    same-goal = same_waiting m.waiting f.node.goals owing.reached.goals.0 w owing.reached.goals.1 nth
+    same_goal : owing.reached.goals.0 ≡ w
+    same_goal = same_waiting m.waiting f.node.goals owing.reached.goals.0 w owing.reached.goals.1 nth
 
-    goal-stands : Stands m.cells w.goal (fun g.symbol g.arguments)
-    goal-stands = subst (λ x. Stands m.cells x.goal (fun g.symbol g.arguments)) same-goal owing.reached.goals.2
+    goal_stands : Stands m.cells w.goal (fun g.symbol g.arguments)
+    goal_stands = subst (λ x. Stands m.cells x.goal (fun g.symbol g.arguments)) same_goal owing.reached.goals.2
 
-    rest-listed : Lists m.cells m.waiting w.rest gs
-    rest-listed = subst (λ x. Lists m.cells m.waiting x.rest gs) same-goal owing.reached.goals.3
+    rest_listed : Lists m.cells m.waiting w.rest gs
+    rest_listed = subst (λ x. Lists m.cells m.waiting x.rest gs) same_goal owing.reached.goals.3
 
     -- the goal's clauses
-    list-is : list_at lists m.cells w.goal ≡ lists g.symbol (arity g.arguments)
-    list-is =
-        let c = goal_cell m.cells w.goal g goal-stands in
+    list_is : list_at lists m.cells w.goal ≡ lists g.symbol (arity g.arguments)
+    list_is =
+        let c = goal_cell m.cells w.goal g goal_stands in
         cond-true (ltb w.goal (length m.cells)) _ _ (lt-ltb w.goal (length m.cells) c.0)
         ∙ (ap (λ s. lists s (get_or m.cells w.goal blank).arity) c.1 ∙ ap (lists g.symbol) c.2)
 
-    toward-work : Toward P kind limit whole a (work_from P i r flag g gs E k ∷ ws)
-    toward-work = subst (λ x. Toward P kind limit whole a (x ∷ ws)) owing.work toward
+    toward_work : Toward P kind limit whole a (work_from P i r flag g gs E k ∷ ws)
+    toward_work = subst (λ x. Toward P kind limit whole a (x ∷ ws)) owing.work toward
 
     -- all clauses have been tried
     pub finished : (cs : List Cell) → Fetched (list_at lists m.cells w.goal) i k m.cells cs None → 0 < i → Underway home P kind limit whole m trodden best fs t
@@ -120,52 +117,52 @@ module _ (home : Memory) (P : Program) (kind : Signature) (limit : ℕ) (whole :
         go : (j : ℕ) → i ≡ j → 0 < j → Underway home P kind limit whole m trodden best fs t
         go zero e h = absurd (omega arith)
         go (suc j) e h =
-            let none : drop i (listed P g) ≡ [] = spelt_none P lists spells g.symbol (arity g.arguments) i (subst (λ l. length l ≤ i) list-is fetched.0) in
-            let t₁ : Toward P kind limit whole a (tries r (suc j) flag g gs E k (drop (suc j) (listed P g)) ∷ ws) = subst (λ n. Toward P kind limit whole a (work_from P n r flag g gs E k ∷ ws)) e toward-work in
+            let none : drop i (listed P g) ≡ [] = spelt_none P lists spells g.symbol (arity g.arguments) i (subst (λ l. length l ≤ i) list_is fetched.0) in
+            let t₁ : Toward P kind limit whole a (tries r (suc j) flag g gs E k (drop (suc j) (listed P g)) ∷ ws) = subst (λ n. Toward P kind limit whole a (work_from P n r flag g gs E k ∷ ws)) e toward_work in
             let t₂ = subst (λ cs. Toward P kind limit whole a (tries r (suc j) flag g gs E k cs ∷ ws)) (ap (λ n. drop n (listed P g)) (sym e) ∙ none) t₁ in
-            record { sum = a; works = ws; owes = owes; tallied = tallied; toward = toward-done P kind limit whole a ws r E k flag g gs (suc j) t₂ }
+            record { sum = a; works = ws; owes = owes; tallied = tallied; toward = toward_done P kind limit whole a ws r E k flag g gs (suc j) t₂ }
 
     many : (cs : List Cell) (h : ℕ) → Fetched (list_at lists m.cells w.goal) i k m.cells cs (Some h) → i < length (listed P g)
     many cs h fetched =
-        let n = subst (λ l. i < length l) list-is fetched.number in
+        let n = subst (λ l. i < length l) list_is fetched.number in
         let e = spelt_length P lists spells g.symbol (arity g.arguments) in omega arith
 
     -- a step is to come, so the whole tree has more steps than were counted
     pub counted : (cs : List Cell) (head : Option ℕ) → Fetched (list_at lists m.cells w.goal) i k m.cells cs head → (head ≡ None → i ≡ 0) → a.edges < whole.edges
     counted cs None fetched first =
-        counts-node P kind limit whole a ws r E k flag g gs owing.early (subst (λ n. Toward P kind limit whole a (work_from P n r flag g gs E k ∷ ws)) (first refl) toward-work)
+        counts_node P kind limit whole a ws r E k flag g gs owing.early (subst (λ n. Toward P kind limit whole a (work_from P n r flag g gs E k ∷ ws)) (first refl) toward_work)
     counted cs (Some h) fetched first =
         let n = many cs h fetched in
-        let s = spelt_clause P lists spells g.symbol (arity g.arguments) i (subst (λ l. i < length l) list-is fetched.number) in
-        counts-tries P kind limit whole a ws r E k flag g gs i s.0 (drop (suc i) (listed P g))
-        (subst (λ cs. Toward P kind limit whole a (tries r i flag g gs E k cs ∷ ws)) s.3 (to-tries i a ws r flag g gs E k owing.early n toward-work))
+        let s = spelt_clause P lists spells g.symbol (arity g.arguments) i (subst (λ l. i < length l) list_is fetched.number) in
+        counts_tries P kind limit whole a ws r E k flag g gs i s.0 (drop (suc i) (listed P g))
+        (subst (λ cs. Toward P kind limit whole a (tries r i flag g gs E k cs ∷ ws)) s.3 (to_tries i a ws r flag g gs E k owing.early n toward_work))
 
     -- the frame that goes on, and those below it, from a memory that has grown
     module _ (m' : Memory) (grown : Grown m m') where
       abbrev next : Work
       next = tries r (suc i) flag g gs E k (drop (suc i) (listed P g))
 
-      owes-next : Owes home P kind limit trodden m' (next_clause f ∷ fs) (next ∷ ws)
-      owes-next =
+      owes_next : Owes home P kind limit trodden m' (next_clause f ∷ fs) (next ∷ ws)
+      owes_next =
           let here : m ≡ back m' (next_clause f) = sym (back_grown m m' f owing.marks grown) in
           let o : Owing home P kind limit trodden m (next_clause f) next =
           record { since = owing.since; marks = record { cells = owing.marks.cells; trail = owing.marks.trail; waiting = owing.marks.waiting }; early = owing.early; path = r; goal = g; rest = gs; equations = E; reached = owing.reached; work = ap (λ n. work_from P n r flag g gs E k) (sym (add-one i)) } in
           (next, ws, refl, subst (λ x. Owing home P kind limit trodden x (next_clause f) next) here o, low, subst (λ x. Owes home P kind limit trodden x fs ws) here owes)
 
-      lower-next : (n : ℕ) → n ≡ k + 1 → Lower n (next_clause f ∷ fs)
-      lower-next n e = (omega arith, lower_more k n fs (omega arith) low)
+      lower_next : (n : ℕ) → n ≡ k + 1 → Lower n (next_clause f ∷ fs)
+      lower_next n e = (omega arith, lower_more k n fs (omega arith) low)
 
-      owes-set-next : Owes home P kind limit (set trodden k i) m' (next_clause f ∷ fs) (next ∷ ws)
-      owes-set-next = owes_set home P kind limit trodden k i m' (next_clause f ∷ fs) (next ∷ ws) (omega arith, lower_more k (suc k) fs (omega arith) low) owes-next
+      owes_set_next : Owes home P kind limit (set trodden k i) m' (next_clause f ∷ fs) (next ∷ ws)
+      owes_set_next = owes_set home P kind limit trodden k i m' (next_clause f ∷ fs) (next ∷ ws) (omega arith, lower_more k (suc k) fs (omega arith) low) owes_next
 
     -- a goal without clauses is dropped
-    drop-none : (cs : List Cell) → Fetched (list_at lists m.cells w.goal) i k m.cells cs None → i ≡ 0
+    drop_none : (cs : List Cell) → Fetched (list_at lists m.cells w.goal) i k m.cells cs None → i ≡ 0
         → Entering home P kind limit whole (with_cells m cs) trodden best (next_clause f ∷ fs) (one_more t) (dropped f w)
-    drop-none cs fetched first =
+    drop_none cs fetched first =
         let same : with_cells m m.cells ≡ with_cells m cs = ap (with_cells m) (sym fetched.1) in
-        let none : (j : ℕ) → drop j (listed P g) ≡ [] = λ j. spelt_none P lists spells g.symbol (arity g.arguments) j (let z = subst (λ l. length l ≤ i) list-is fetched.0 in omega arith) in
-        let t₀ = subst (λ n. Toward P kind limit whole a (work_from P n r flag g gs E k ∷ ws)) first toward-work in
-        let t₁ = toward-dropped P kind limit whole a ws r E k flag g gs owing.early (none 0) t₀ in
+        let none : (j : ℕ) → drop j (listed P g) ≡ [] = λ j. spelt_none P lists spells g.symbol (arity g.arguments) j (let z = subst (λ l. length l ≤ i) list_is fetched.0 in omega arith) in
+        let t₀ = subst (λ n. Toward P kind limit whole a (work_from P n r flag g gs E k ∷ ws)) first toward_work in
+        let t₁ = toward_dropped P kind limit whole a ws r E k flag g gs owing.early (none 0) t₀ in
         let t₂ = subst (λ cs. Toward P kind limit whole (a ⊕ tick) (node r false gs E (suc k) ∷ (tries r 1 flag g gs E k cs ∷ ws))) (sym (none 1)) t₁ in
         let t₃ = subst (λ n. Toward P kind limit whole (a ⊕ tick) (node r false gs E (suc k) ∷ (tries r (suc n) flag g gs E k (drop (suc n) (listed P g)) ∷ ws))) (sym first) t₂ in
         subst (λ x. Entering home P kind limit whole x trodden best (next_clause f ∷ fs) (one_more t) (dropped f w)) same
@@ -176,75 +173,75 @@ module _ (home : Memory) (P : Program) (kind : Signature) (limit : ℕ) (whole :
           goals = gs;
           equations = E;
           since = owing.since;
-          owes = owes-next m (grown_same m);
-          lower = lower-next m (grown_same m) (k + 1) refl;
-          reached = record { standing = owing.reached.standing; goals = rest-listed; path = λ e. absurd (let z : ◌≡◌ {A = ℕ} 0 1 = cc in omega arith) };
+          owes = owes_next m (grown_same m);
+          lower = lower_next m (grown_same m) (k + 1) refl;
+          reached = record { standing = owing.reached.standing; goals = rest_listed; path = λ e. absurd (let z : ◌≡◌ {A = ℕ} 0 1 = cc in omega arith) };
           tallied = tallied_more t best a tallied;
           toward = subst (λ n. Toward P kind limit whole (a ⊕ tick) (node r false gs E n ∷ (next m (grown_same m) ∷ ws))) (sym (add-one k)) t₃;
         })
 
     -- a clause stands after the cells
     module _ (cs : List Cell) (small : length cs ≤ 1568) (h : ℕ) (fetched : Fetched (list_at lists m.cells w.goal) i k m.cells cs (Some h)) where
-      the-clause : (c : Clause) × (get_or (lists g.symbol (arity g.arguments)) i [] ≡ spell_clause c) × (drop i (listed P g) ≡ c ∷ drop (suc i) (listed P g))
-      the-clause = let s = spelt_clause P lists spells g.symbol (arity g.arguments) i (subst (λ l. i < length l) list-is fetched.number) in (s.0, s.2, s.3)
+      the_clause : (c : Clause) × (get_or (lists g.symbol (arity g.arguments)) i [] ≡ spell_clause c) × (drop i (listed P g) ≡ c ∷ drop (suc i) (listed P g))
+      the_clause = let s = spelt_clause P lists spells g.symbol (arity g.arguments) i (subst (λ l. i < length l) list_is fetched.number) in (s.0, s.2, s.3)
 
       abbrev c : Clause
-      c = the-clause.0
+      c = the_clause.0
 
-      abbrev goal-term : Term
-      goal-term = fun g.symbol g.arguments
+      abbrev goal_term : Term
+      goal_term = fun g.symbol g.arguments
 
-      abbrev head-term : Term
-      head-term = fun (new_head k c).symbol (new_head k c).arguments
+      abbrev head_term : Term
+      head_term = fun (new_head k c).symbol (new_head k c).arguments
 
       abbrev new : List Cell
       new = spell_goal (new_head k c) ++ spell_goals (new_body k c)
 
       cells_are : cs ≡ m.cells ++ new
-      cells_are = fetched.cells ∙ ap (λ xs. m.cells ++ xs) (ap (λ l. renamed (fresh k) (get_or l i [])) list-is ∙ (ap (renamed (fresh k)) the-clause.1 ∙ renamed_clause k c))
+      cells_are = fetched.cells ∙ ap (λ xs. m.cells ++ xs) (ap (λ l. renamed (fresh k) (get_or l i [])) list_is ∙ (ap (renamed (fresh k)) the_clause.1 ∙ renamed_clause k c))
 
-      grown-cells : Grown m (with_cells m cs)
-      grown-cells = record { more = new; cells = cells_are; logged = logged_none m.links m.trail; later = []; waiting = sym (append-nil m.waiting) }
+      grown_cells : Grown m (with_cells m cs)
+      grown_cells = record { more = new; cells = cells_are; logged = logged_none m.links m.trail; later = []; waiting = sym (append-nil m.waiting) }
 
       placed : drop h cs ≡ spell_goals (new_head k c ∷ new_body k c)
       placed = ap (λ n. drop n cs) fetched.place ∙ (ap (drop (length m.cells)) cells_are ∙ drop_at m.cells new (length m.cells) refl)
 
-      head-stands : Stands cs h (fun (new_head k c).symbol (new_head k c).arguments)
-      head-stands = (place_goals cs h (new_head k c) (new_body k c) placed).0
+      head_stands : Stands cs h (fun (new_head k c).symbol (new_head k c).arguments)
+      head_stands = (place_goals cs h (new_head k c) (new_body k c) placed).0
 
-      goal-still : Stands cs w.goal (fun g.symbol g.arguments)
-      goal-still = subst (λ x. Stands x w.goal (fun g.symbol g.arguments)) (sym cells_are) (stands_grown m.cells new w.goal (fun g.symbol g.arguments) goal-stands)
+      goal_still : Stands cs w.goal (fun g.symbol g.arguments)
+      goal_still = subst (λ x. Stands x w.goal (fun g.symbol g.arguments)) (sym cells_are) (stands_grown m.cells new w.goal (fun g.symbol g.arguments) goal_stands)
 
       still : Standing kind cs m.links E
       still =
           subst (λ x. Standing kind x m.links E) (sym cells_are)
           (standing_grow kind m.cells new m.links E (let z = ap length cells_are in omega arith) (whole_goal_goals (new_head k c) (new_body k c)) owing.reached.standing)
 
-      rest-still : Lists cs m.waiting w.rest gs
-      rest-still =
+      rest_still : Lists cs m.waiting w.rest gs
+      rest_still =
           subst (λ x. Lists x m.waiting w.rest gs) (sym cells_are)
-          (subst (λ x. Lists (m.cells ++ new) x w.rest gs) (append-nil m.waiting) (lists_grown m.cells new m.waiting [] w.rest gs rest-listed))
+          (subst (λ x. Lists (m.cells ++ new) x w.rest gs) (append-nil m.waiting) (lists_grown m.cells new m.waiting [] w.rest gs rest_listed))
 
-      toward-clause : Toward P kind limit whole a (tries r i flag g gs E k (c ∷ drop (suc i) (listed P g)) ∷ ws)
-      toward-clause = subst (λ cs. Toward P kind limit whole a (tries r i flag g gs E k cs ∷ ws)) the-clause.2 (to-tries i a ws r flag g gs E k owing.early (many cs h fetched) toward-work)
+      toward_clause : Toward P kind limit whole a (tries r i flag g gs E k (c ∷ drop (suc i) (listed P g)) ∷ ws)
+      toward_clause = subst (λ cs. Toward P kind limit whole a (tries r i flag g gs E k cs ∷ ws)) the_clause.2 (to_tries i a ws r flag g gs E k owing.early (many cs h fetched) toward_work)
 
       -- not solved: the bindings go back to what the frame had
-      gone-back : rolled (with_cells m cs) f.bindings ≡ m
-      gone-back = rolled_grown m (with_cells m cs) f owing.marks grown-cells refl
+      gone_back : rolled (with_cells m cs) f.bindings ≡ m
+      gone_back = rolled_grown m (with_cells m cs) f owing.marks grown_cells refl
 
-      step-wrong : Told kind (with_cells m cs) w.goal h outcome.Wrong → Underway home P kind limit whole m (set trodden k i) best (next_clause f ∷ fs) (one_more t)
-      step-wrong told =
+      step_wrong : Told kind (with_cells m cs) w.goal h outcome.Wrong → Underway home P kind limit whole m (set trodden k i) best (next_clause f ∷ fs) (one_more t)
+      step_wrong told =
           record {
             sum = a ⊕ tick;
             works = next m (grown_same m) ∷ ws;
-            owes = owes-set-next m (grown_same m);
+            owes = owes_set_next m (grown_same m);
             tallied = tallied_more t best a tallied;
-            toward = toward-wrong P kind limit whole a ws r E k flag g gs i c (drop (suc i) (listed P g)) (told E goal-term head-term still goal-still head-stands) toward-clause;
+            toward = toward_wrong P kind limit whole a ws r E k flag g gs i c (drop (suc i) (listed P g)) (told E goal_term head_term still goal_still head_stands) toward_clause;
           }
 
-      step-false : Told kind (with_cells m cs) w.goal h outcome.False → Entering home P kind limit whole m (set trodden k i) best (next_clause f ∷ fs) (one_more t) (dropped f w)
-      step-false told =
-          let t₁ = toward-false P kind limit whole a ws r E k flag g gs i c (drop (suc i) (listed P g)) (told E goal-term head-term still goal-still head-stands) toward-clause in
+      step_false : Told kind (with_cells m cs) w.goal h outcome.False → Entering home P kind limit whole m (set trodden k i) best (next_clause f ∷ fs) (one_more t) (dropped f w)
+      step_false told =
+          let t₁ = toward_false P kind limit whole a ws r E k flag g gs i c (drop (suc i) (listed P g)) (told E goal_term head_term still goal_still head_stands) toward_clause in
           record {
             sum = a ⊕ tick;
             works = next m (grown_same m) ∷ ws;
@@ -252,48 +249,48 @@ module _ (home : Memory) (P : Program) (kind : Signature) (limit : ℕ) (whole :
             goals = gs;
             equations = E;
             since = owing.since;
-            owes = owes-set-next m (grown_same m);
-            lower = lower-next m (grown_same m) (k + 1) refl;
-            reached = record { standing = owing.reached.standing; goals = rest-listed; path = λ e. absurd (let z : ◌≡◌ {A = ℕ} 0 1 = cc in omega arith) };
+            owes = owes_set_next m (grown_same m);
+            lower = lower_next m (grown_same m) (k + 1) refl;
+            reached = record { standing = owing.reached.standing; goals = rest_listed; path = λ e. absurd (let z : ◌≡◌ {A = ℕ} 0 1 = cc in omega arith) };
             tallied = tallied_more t best a tallied;
             toward = subst (λ n. Toward P kind limit whole (a ⊕ tick) (node (r ++ (i ∷ [])) false gs E n ∷ (next m (grown_same m) ∷ ws))) (sym (add-one k)) t₁;
           }
 
       module _ (long : k < length trodden) (m' : Memory) (n : Node) (up : TakenUp kind f w h (with_cells m cs) m' n) where
-        grown-up : Grown m m'
-        grown-up = record { more = new; cells = up.cells ∙ cells_are; logged = up.logged; later = up.later; waiting = up.waiting }
+        grown_up : Grown m m'
+        grown_up = record { more = new; cells = up.cells ∙ cells_are; logged = up.logged; later = up.later; waiting = up.waiting }
 
-        on-path : n.flag ≡ true → take n.step (set trodden k i) ≡ r ++ (i ∷ [])
-        on-path e = ap (λ x. take x (set trodden k i)) up.step ∙ (take_more_set trodden k i long ∙ ap (λ xs. xs ++ (i ∷ [])) (owing.reached.path (sym up.flag ∙ e)))
+        on_path : n.flag ≡ true → take n.step (set trodden k i) ≡ r ++ (i ∷ [])
+        on_path e = ap (λ x. take x (set trodden k i)) up.step ∙ (take_more_set trodden k i long ∙ ap (λ xs. xs ++ (i ∷ [])) (owing.reached.path (sym up.flag ∙ e)))
 
-        step-solved : Entering home P kind limit whole m' (set trodden k i) best (next_clause f ∷ fs) (one_more t) n
-        step-solved =
-            let told = up.told E goal-term head-term still goal-still head-stands in
+        step_solved : Entering home P kind limit whole m' (set trodden k i) best (next_clause f ∷ fs) (one_more t) n
+        step_solved =
+            let told = up.told E goal_term head_term still goal_still head_stands in
             let E' = with_head k g c E in
-            let t₁ = toward-solved P kind limit whole a ws r E k flag g gs i c (drop (suc i) (listed P g)) told.0 toward-clause in
-            let t₂ = subst (λ x. Toward P kind limit whole (a ⊕ tick) (node (r ++ (i ∷ [])) flag (new_body k c ++ gs) E' x ∷ (next m' grown-up ∷ ws))) (sym (up.step ∙ add-one k)) t₁ in
+            let t₁ = toward_solved P kind limit whole a ws r E k flag g gs i c (drop (suc i) (listed P g)) told.0 toward_clause in
+            let t₂ = subst (λ x. Toward P kind limit whole (a ⊕ tick) (node (r ++ (i ∷ [])) flag (new_body k c ++ gs) E' x ∷ (next m' grown_up ∷ ws))) (sym (up.step ∙ add-one k)) t₁ in
             record {
               sum = a ⊕ tick;
-              works = next m' grown-up ∷ ws;
+              works = next m' grown_up ∷ ws;
               path = r ++ (i ∷ []);
               goals = new_body k c ++ gs;
               equations = E';
-              since = grown_trans home m m' owing.since grown-up;
-              owes = owes-set-next m' grown-up;
-              lower = lower-next m' grown-up n.step up.step;
+              since = grown_trans home m m' owing.since grown_up;
+              owes = owes_set_next m' grown_up;
+              lower = lower_next m' grown_up n.step up.step;
               reached = record {
                 standing = subst (λ x. Standing kind x m'.links E') (sym up.cells) (told.1 refl);
-                goals = up.goals (new_body k c) gs (place_goals cs h (new_head k c) (new_body k c) placed).1 rest-still;
-                path = on-path;
+                goals = up.goals (new_body k c) gs (place_goals cs h (new_head k c) (new_body k c) placed).1 rest_still;
+                path = on_path;
               };
               tallied = tallied_more t best a tallied;
-              toward = subst (λ x. Toward P kind limit whole (a ⊕ tick) (node (r ++ (i ∷ [])) x (new_body k c ++ gs) E' n.step ∷ (next m' grown-up ∷ ws))) (sym up.flag) t₂;
+              toward = subst (λ x. Toward P kind limit whole (a ⊕ tick) (node (r ++ (i ∷ [])) x (new_body k c ++ gs) E' n.step ∷ (next m' grown_up ∷ ws))) (sym up.flag) t₂;
             }
 
     -- whether or not a clause was loaded, the memory has grown from where the search began
-    pub loaded-since : (cs : List Cell) (head : Option ℕ) → length cs ≤ 1568 → Fetched (list_at lists m.cells w.goal) i k m.cells cs head → Grown home (with_cells m cs)
-    loaded-since cs None small fetched = subst (Grown home) (ap (with_cells m) (sym fetched.1)) owing.since
-    loaded-since cs (Some h) small fetched = grown_trans home m (with_cells m cs) owing.since (grown-cells cs small h fetched)
+    pub loaded_since : (cs : List Cell) (head : Option ℕ) → length cs ≤ 1568 → Fetched (list_at lists m.cells w.goal) i k m.cells cs head → Grown home (with_cells m cs)
+    loaded_since cs None small fetched = subst (Grown home) (ap (with_cells m) (sym fetched.1)) owing.since
+    loaded_since cs (Some h) small fetched = grown_trans home m (with_cells m cs) owing.since (grown_cells cs small h fetched)
 
     -- whatever the step, the search is on the way
     pub stepped : (cs : List Cell) (head : Option ℕ) → length cs ≤ 1568 → k < length trodden → Fetched (list_at lists m.cells w.goal) i k m.cells cs head → (head ≡ None → i ≡ 0)
@@ -303,14 +300,14 @@ module _ (home : Memory) (P : Program) (kind : Signature) (limit : ℕ) (whole :
         subst (λ o. Arrives home P kind limit whole m' trodden' best (next_clause f ∷ fs) (one_more t) n o) (sym resolved.2)
         (subst (λ x. Arrives home P kind limit whole x trodden' best (next_clause f ∷ fs) (one_more t) n outcome.False) (sym resolved.0)
         (subst (λ x. Arrives home P kind limit whole (with_cells m cs) x best (next_clause f ∷ fs) (one_more t) n outcome.False) (sym path)
-        (subst (λ x. Arrives home P kind limit whole (with_cells m cs) trodden best (next_clause f ∷ fs) (one_more t) x outcome.False) (sym resolved.1) (drop-none cs fetched (first refl), refl))))
+        (subst (λ x. Arrives home P kind limit whole (with_cells m cs) trodden best (next_clause f ∷ fs) (one_more t) x outcome.False) (sym resolved.1) (drop_none cs fetched (first refl), refl))))
     stepped cs (Some h) small long fetched first m' n outcome.Solved trodden' resolved path =
-        subst (λ x. Arrives home P kind limit whole m' x best (next_clause f ∷ fs) (one_more t) n outcome.Solved) (sym path) (step-solved cs small h fetched long m' n resolved)
+        subst (λ x. Arrives home P kind limit whole m' x best (next_clause f ∷ fs) (one_more t) n outcome.Solved) (sym path) (step_solved cs small h fetched long m' n resolved)
     stepped cs (Some h) small long fetched first m' n outcome.False trodden' resolved path =
-        subst (λ x. Arrives home P kind limit whole x trodden' best (next_clause f ∷ fs) (one_more t) n outcome.False) (sym (resolved.1 ∙ gone-back cs small h fetched))
+        subst (λ x. Arrives home P kind limit whole x trodden' best (next_clause f ∷ fs) (one_more t) n outcome.False) (sym (resolved.1 ∙ gone_back cs small h fetched))
         (subst (λ x. Arrives home P kind limit whole m x best (next_clause f ∷ fs) (one_more t) n outcome.False) (sym path)
-        (subst (λ x. Arrives home P kind limit whole m (set trodden k i) best (next_clause f ∷ fs) (one_more t) x outcome.False) (sym resolved.2) (step-false cs small h fetched resolved.0, refl)))
+        (subst (λ x. Arrives home P kind limit whole m (set trodden k i) best (next_clause f ∷ fs) (one_more t) x outcome.False) (sym resolved.2) (step_false cs small h fetched resolved.0, refl)))
     stepped cs (Some h) small long fetched first m' n outcome.Wrong trodden' resolved path =
-        subst (λ x. Arrives home P kind limit whole x trodden' best (next_clause f ∷ fs) (one_more t) n outcome.Wrong) (sym (resolved.1 ∙ gone-back cs small h fetched))
+        subst (λ x. Arrives home P kind limit whole x trodden' best (next_clause f ∷ fs) (one_more t) n outcome.Wrong) (sym (resolved.1 ∙ gone_back cs small h fetched))
         (subst (λ x. Arrives home P kind limit whole m x best (next_clause f ∷ fs) (one_more t) n outcome.Wrong) (sym path)
-        (subst (λ x. Arrives home P kind limit whole m (set trodden k i) best (next_clause f ∷ fs) (one_more t) x outcome.Wrong) (sym resolved.2) (step-wrong cs small h fetched resolved.0)))
+        (subst (λ x. Arrives home P kind limit whole m (set trodden k i) best (next_clause f ∷ fs) (one_more t) x outcome.Wrong) (sym resolved.2) (step_wrong cs small h fetched resolved.0)))

@@ -1,10 +1,10 @@
 -- One turn: the newest frame goes back, and its next clause is a step.
-use Rattle.std.proofs.Common.{◌≡◌, ℕ, zero, suc, ◌+◌, ◌-◌, ◌<◌, ◌≤◌, Bool, true, false, not, ◌⊎◌, List, [], ◌∷◌, ◌++◌, length, get_or, is_some, Some, None, Option, sym, refl, ap, ◌∙◌, subst, inl, inr, arith}
+use Rattle.std.proofs.Common.{◌≡◌, ℕ, ◌-◌, ◌<◌, ◌≤◌, Bool, true, false, not, ◌⊎◌, List, [], ◌∷◌, length, get_or, is_some, Some, None, Option, sym, refl, ap, ◌∙◌, subst, inl, inr, arith}
 use Rattle.terms.specs.declared.Cell.{Cell}
 use Rattle.typing.specs.Terms.{Signature}
 use Rattle.trees.specs.Tree.{Program}
 use Rattle.trees.specs.Summaries.{Summary}
-use Rattle.trees.specs.Search.{Work, Toward}
+use Rattle.trees.specs.Search.{Toward}
 use Rattle.programs.specs.Spelling.{Spells}
 use Rattle.unification.specs.declared.Outcome.{Outcome}
 use Rattle.verdicts.specs.declared.ending.Tally.{Tally}
@@ -14,11 +14,11 @@ use Rattle.frames.specs.declared.Node.{Node}
 use Rattle.frames.specs.Frames.{list_at, Fetched, trodden_after}
 use Rattle.frames.specs.Memory.{Memory, back, Grown}
 use Rattle.frames.specs.Goals.{Nth}
-use Rattle.trees.proofs.Toward.{toward-end}
-use Rattle.frames.specs.Owed.{Lower, Owing, Owes, Tallied, Underway, Arrives, one_more}
+use Rattle.trees.proofs.Toward.{toward_end}
+use Rattle.frames.specs.Owed.{Owing, Owes, Tallied, Underway, Arrives, one_more}
 use Rattle.frames.specs.Steps.{with_cells, next_clause, Resolved}
 use Rattle.frames.proofs.Memories.{memory_path}
-use Rattle.frames.proofs.Steps.{finished, counted, stepped, loaded-since}
+use Rattle.frames.proofs.Steps.{finished, counted, stepped, loaded_since}
 
 -- the n-th that waits, by the length that a vector tells
 pub nth_of : (ws : List Waiting) (k n : ℕ) (w : Waiting) → k ≡ length ws → (1 ≤ n) × (n ≤ k) × (get_or ws (n - 1) w ≡ w) → Nth ws n w
@@ -51,35 +51,35 @@ module _ (home : Memory) (P : Program) (kind : Signature) (limit : ℕ) (whole :
   toward = subst (Toward P kind limit whole on.sum) on.owes.2 on.toward
 
   -- the frame's first goal waits
-  pub some-goal : (0 < f.node.goals) × (f.node.goals ≤ length m.waiting)
-  some-goal = let n = owing.reached.goals.1 in (n.some, n.within)
+  pub some_goal : (0 < f.node.goals) × (f.node.goals ≤ length m.waiting)
+  some_goal = let n = owing.reached.goals.1 in (n.some, n.within)
 
   module _ (lists : ℕ → ℕ → List (List Cell)) (spells : Spells P lists) (w : Waiting) (nth : Nth m.waiting f.node.goals w) (cs : List Cell) (head : Option ℕ)
       (fetched : Fetched (list_at lists m.cells w.goal) f.clause f.node.step m.cells cs head) where
     -- all its clauses have been tried
-    pub turn-done : head ≡ None → 0 < f.clause → (m' : Memory) → m' ≡ with_cells m cs → Underway home P kind limit whole m' trodden best fs t
-    turn-done none some m' same =
+    pub turn_done : head ≡ None → 0 < f.clause → (m' : Memory) → m' ≡ with_cells m cs → Underway home P kind limit whole m' trodden best fs t
+    turn_done none some m' same =
         let fetched' = subst (Fetched (list_at lists m.cells w.goal) f.clause f.node.step m.cells cs) none fetched in
         let back-again : m ≡ m' = memory_path m (with_cells m cs) (sym fetched'.1) refl refl refl ∙ sym same in
         subst (λ x. Underway home P kind limit whole x trodden best fs t) back-again
         (finished home P kind limit whole lists spells m f fs on.owes.0 on.owes.1 trodden best t on.sum owing on.owes.4 owes on.tallied toward w nth cs fetched' some)
 
-    pub turn-since : length cs ≤ 1568 → (m' : Memory) → m' ≡ with_cells m cs → Grown home m'
-    turn-since small m' same =
+    pub turn_since : length cs ≤ 1568 → (m' : Memory) → m' ≡ with_cells m cs → Grown home m'
+    turn_since small m' same =
         subst (Grown home) (sym same)
-        (loaded-since home P kind limit whole lists spells m f fs on.owes.0 on.owes.1 trodden best t on.sum owing on.owes.4 owes on.tallied toward w nth cs head small fetched)
+        (loaded_since home P kind limit whole lists spells m f fs on.owes.0 on.owes.1 trodden best t on.sum owing on.owes.4 owes on.tallied toward w nth cs head small fetched)
 
     module _ (first : head ≡ None → f.clause ≡ 0) where
       -- a step is to come
-      pub turn-counts : t.steps < whole.edges
-      turn-counts =
+      pub turn_counts : t.steps < whole.edges
+      turn_counts =
           let n = counted home P kind limit whole lists spells m f fs on.owes.0 on.owes.1 trodden best t on.sum owing on.owes.4 owes on.tallied toward w nth cs head fetched first in
           let s = on.tallied.steps in omega arith
 
-      pub turn-steps : length cs ≤ 1568 → f.node.step < length trodden → (m₂ m' : Memory) → m₂ ≡ with_cells m cs → (n : Node) (o : Outcome) (trodden' : List ℕ)
+      pub turn_steps : length cs ≤ 1568 → f.node.step < length trodden → (m₂ m' : Memory) → m₂ ≡ with_cells m cs → (n : Node) (o : Outcome) (trodden' : List ℕ)
           → Resolved kind f w head m₂ m' n o → trodden' ≡ trodden_after head trodden f.node.step f.clause
           → Arrives home P kind limit whole m' trodden' best (next_clause f ∷ fs) (one_more t) n o
-      turn-steps small long m₂ m' same n o trodden' resolved path =
+      turn_steps small long m₂ m' same n o trodden' resolved path =
           stepped home P kind limit whole lists spells m f fs on.owes.0 on.owes.1 trodden best t on.sum owing on.owes.4 owes on.tallied toward w nth cs head small long fetched first m' n o trodden'
           (subst (λ x. Resolved kind f w head x m' n o) same resolved) path
 
@@ -88,4 +88,4 @@ pub walk_ended : (home : Memory) (P : Program) (kind : Signature) (limit : ℕ) 
     → Underway home P kind limit whole m trodden best fs t → Tallied t best whole × Grown home m
 walk_ended home P kind limit whole m trodden best fs t none on₀ =
     let on = subst (λ x. Underway home P kind limit whole m trodden best x t) none on₀ in
-    (subst (Tallied t best) (toward-end P kind limit whole on.sum (subst (Toward P kind limit whole on.sum) on.owes.0 on.toward)) on.tallied, on.owes.1)
+    (subst (Tallied t best) (toward_end P kind limit whole on.sum (subst (Toward P kind limit whole on.sum) on.owes.0 on.toward)) on.tallied, on.owes.1)

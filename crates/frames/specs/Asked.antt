@@ -1,5 +1,5 @@
 -- When a question is refused before its tree is walked, and what its answer tells of the tree and of proofs.
-use Rattle.std.specs.Prelude.{◌≡◌, ℕ, ◌+◌, ◌<◌, ◌≤◌, Bool, true, false, cond, not, ◌||◌, List, [], ◌∷◌, ◌++◌, length, take, drop, is_some, Some, None, Ok, Err, Option, Result, nat_lt}
+use Rattle.std.specs.Prelude.{◌≡◌, ℕ, ◌<◌, ◌≤◌, Bool, true, cond, ◌||◌, List, ◌++◌, length, take, drop, is_some, Some, None, Ok, Err, Option, Result, nat_lt}
 use Rattle.terms.specs.declared.Cell.{Cell}
 use Rattle.typing.specs.Terms.{Subst, Eqs, Signature, Unifies}
 use Rattle.trees.specs.Terms.{EqsBelow}

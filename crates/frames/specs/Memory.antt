@@ -1,5 +1,5 @@
 -- What a search holds, and how it goes back.
-use Rattle.std.specs.Prelude.{◌≡◌, ℕ, ◌<◌, ◌≤◌, List, [], ◌∷◌, ◌++◌, length, take, drop}
+use Rattle.std.specs.Prelude.{◌≡◌, ℕ, List, ◌++◌, length, take, drop}
 use Rattle.terms.specs.declared.Cell.{Cell}
 use Rattle.graphs.specs.Links.{restore, Logged}
 use Rattle.unification.specs.declared.Snapshot.{Snapshot}

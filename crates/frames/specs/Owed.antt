@@ -1,8 +1,7 @@
 -- What the frames of a search stand for: the work that the search still owes to the tree.
-use Rattle.std.specs.Prelude.{◌≡◌, ℕ, zero, suc, ◌+◌, ◌<◌, ◌≤◌, Bool, true, false, cond, List, [], ◌∷◌, ◌++◌, length, take, drop, Some, None, Option}
+use Rattle.std.specs.Prelude.{◌≡◌, ℕ, zero, suc, ◌+◌, ◌<◌, Bool, true, false, cond, List, [], ◌∷◌, length, take, drop, Some, None, Option}
 use Rattle.std.proofs.Math.Option as option
-use Rattle.terms.specs.declared.Cell.{Cell}
-use Rattle.typing.specs.Terms.{Term, fun, ◌≈◌, Eqs, Signature}
+use Rattle.typing.specs.Terms.{Eqs, Signature}
 use Rattle.trees.specs.Tree.{Goal, Program, listed}
 use Rattle.trees.specs.Summaries.{Summary}
 use Rattle.trees.specs.Search.{Work, node, tries, Toward}
@@ -14,7 +13,6 @@ use Rattle.verdicts.specs.declared.ending.Leaves.{Leaves}
 use Rattle.verdicts.specs.declared.ending.Ending.{Ending}
 use Rattle.verdicts.specs.declared.ending.Ending.TheVariants.{Success, Untrue, Wrong, Cut, On}
 use Rattle.verdicts.specs.Leaves.{shorter, noted}
-use Rattle.frames.specs.declared.Waiting.{Waiting}
 use Rattle.frames.specs.declared.Node.{Node}
 use Rattle.frames.specs.declared.Frame.{Frame}
 use Rattle.frames.specs.Memory.{Memory, back, Marks, Grown}

@@ -1,5 +1,5 @@
 -- One step from a node: its first goal and a clause, in the memory of the search.
-use Rattle.std.specs.Prelude.{◌≡◌, ℕ, suc, ◌+◌, ◌<◌, ◌≤◌, Bool, true, false, List, [], ◌∷◌, ◌++◌, length, drop, Some, None, Option}
+use Rattle.std.specs.Prelude.{◌≡◌, ℕ, ◌+◌, false, List, ◌∷◌, ◌++◌, drop, Some, None, Option}
 use Rattle.terms.specs.declared.Cell.{Cell}
 use Rattle.typing.specs.Terms.{Term, ◌≈◌, Eqs, Signature}
 use Rattle.typing.specs.Rules.{Means}

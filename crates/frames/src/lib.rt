@@ -1,4 +1,6 @@
 // The records of a search: goals that wait, nodes of the tree, and the frames of those whose clauses are still to be tried; and what they stand for.
+#![tactic(auto)]
+
 ghost use Rattle.std.specs.Prelude.{◌≡◌, false};
 
 use unification::Snapshot;

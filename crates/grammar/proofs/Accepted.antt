@@ -1,15 +1,14 @@
 -- Tokens that are a clause of the grammar within the limits are read.
-use Rattle.std.proofs.Common.{◌≡◌, ℕ, zero, suc, ◌+◌, ◌-◌, ◌<◌, ◌≤◌, min, Bool, true, false, cond, ◌&&◌, ◌||◌, eqb, ltb, leb, List, [], ◌∷◌, ◌++◌, length, get_or, drop, Some, None, Ok, Err, Result, sym, refl, ap, ◌∙◌, subst, zero-add, arith}
+use Rattle.std.proofs.Common.{◌≡◌, ℕ, suc, ◌+◌, ◌-◌, ◌<◌, ◌≤◌, min, Bool, true, false, cond, ◌&&◌, eqb, ltb, leb, List, [], ◌∷◌, ◌++◌, length, get_or, drop, Some, Ok, Err, sym, refl, ap, ◌∙◌, subst, zero-add, arith}
 use Rattle.std.proofs.lemmas.List.{length_push, get_or_push, append_assoc, append-nil, length-append}
 use Rattle.std.proofs.lemmas.Bool.{cond-false, and_right, or_from, lt-leb, lt-ltb}
 use Rattle.terms.specs.declared.Cell.{Cell}
-use Rattle.typing.specs.Terms.{Term, Terms, var, con, fun, none, more}
+use Rattle.typing.specs.Terms.{Term, Terms, fun}
 use Rattle.trees.specs.Tree.{Goal as TreeGoal, Clause as TreeClause}
 use Rattle.graphs.specs.Flat.{flat, flats, count}
 use Rattle.programs.specs.Spelling.{spell_goal, spell_goals, spell_clause}
 use Rattle.lexis.specs.Tokens.{token_at, start_at}
 use Rattle.lexis.specs.Worth.{worth_of}
-use Rattle.lexis.specs.declared.fault.Fault.{Fault}
 use Rattle.lexis.specs.declared.fault.Cause.TheVariants.{Question as TooLarge}
 use Rattle.lexis.specs.declared.token.Token.{Token}
 use Rattle.lexis.specs.declared.token.Kind.{Kind}
@@ -18,18 +17,18 @@ use Rattle.names.specs.declared.Span.{Span}
 use Rattle.names.specs.Places.{place_of}
 use Rattle.draft.specs.declared.Bracket.{Bracket}
 use Rattle.draft.specs.declared.grammar.Due.{Due}
-use Rattle.draft.specs.declared.grammar.Due.TheVariants.{Head, Goal, GoalOrDot, Argument, NameEnd, TermEnd, Nothing}
+use Rattle.draft.specs.declared.grammar.Due.TheVariants.{Head, Goal, Argument, NameEnd, TermEnd, Nothing}
 use Rattle.draft.specs.declared.reader.Form.TheVariants.{Clause}
 use Rattle.draft.specs.Drafts.{var_cell, const_cell, symbol_cell, cell_of, span_of, makes_cell}
 use Rattle.clauses.specs.Clauses.{vars_after}
 use Rattle.draft.specs.Grammar.{after, term_begins, term_ends, inside_ends}
-use Rattle.draft.specs.Sketch.{Sketch, with_arity, with_arguments, innermost, no_bracket, valued, celled, cell_added, added, opened, opened_in, closed, entered_as, too_many, taken, same_variable, ReadsClause}
+use Rattle.draft.specs.Sketch.{Sketch, with_arity, with_arguments, innermost, no_bracket, valued, celled, added, opened, opened_in, entered_as, too_many, taken, same_variable, ReadsClause}
 use Rattle.grammar.specs.Grammar.{Tokens, word_for, variable_in, with_variable, IsTerm, AreTerms, IsGoal, AreGoals, IsClause, named}
 use Rattle.grammar.specs.Grammar.Tokens.{stop, next}
 use Rattle.grammar.specs.Grammar.IsTerm.{variable, integer, float, atom, string, compound}
-use Rattle.grammar.specs.Grammar.AreTerms.{one-term, more-terms}
+use Rattle.grammar.specs.Grammar.AreTerms.{one_term, more_terms}
 use Rattle.grammar.specs.Grammar.IsGoal.{plain, applied}
-use Rattle.grammar.specs.Grammar.AreGoals.{one-goal, more-goals}
+use Rattle.grammar.specs.Grammar.AreGoals.{one_goal, more_goals}
 use Rattle.grammar.specs.Grammar.IsClause.{fact, rule}
 use Rattle.grammar.specs.Laws.{Sized, Slim, Slims, SlimGoals, Fitting}
 use Rattle.grammar.proofs.Named.{named_append}
@@ -254,30 +253,30 @@ args_sim text st cs c ss bs g b o ws vs n number whole a m t cl x y p tk ck wt w
     }
 
 mutual
-  term-sim : (text : List ℕ) (number : List ℕ → ℕ) (ws : List (List ℕ)) (ts : List Token) (term : Term) (vs : List (List ℕ)) → IsTerm text number ws ts term vs
+  term_sim : (text : List ℕ) (number : List ℕ → ℕ) (ws : List (List ℕ)) (ts : List Token) (term : Term) (vs : List (List ℕ)) → IsTerm text number ws ts term vs
       → (st : ℕ) (pre mid : List Cell) (f : Cell) (ss : List Span) (bs : List Bracket) (k g : ℕ) (b o : Bool) (a m : ℕ) → eqb f.tag 0 ≡ false → Known text (pre ++ f ∷ mid) ss ws → Tokens text a ts m → Sized text ts → Slim term → k < 8
       → length (pre ++ f ∷ mid) + length (flat term) ≤ 32 → length bs < length (pre ++ f ∷ mid)
       → TermSim text st pre mid f ss bs k g b o ws vs number (flat term) a m
-  term-sim text number ws ts term vs (variable t tk) st pre mid f ss bs k g b o a m ft known toks z slim small few deep =
+  term_sim text number ws ts term vs (variable t tk) st pre mid f ss bs k g b o a m ft known toks z slim small few deep =
       let q = swapped text pre mid f (with_arity (k + 1) f) ss ws ft ft known in
       let c = var_cell (variable_in ws (word_for text t)) in
       leaf_sim text st pre mid f ss bs k g b o ws (with_variable ws (word_for text t)) a m t c number (flat term) refl toks
       (cell_taken text st pre mid f ss bs k g b o ws t Variable z.0.0 c TermEnd (with_variable ws (word_for text t)) tk z.0.1 refl refl
       (ap var_cell (variable_number_lem text (pre ++ with_arity (k + 1) f ∷ mid) ss ws (word_for text t) q)) (count_number ws (word_for text t)) small (omega arith))
       (known_variable text (pre ++ with_arity (k + 1) f ∷ mid) ss ws (span_of t) q)
-  term-sim text number ws ts term vs (integer t v tk w) st pre mid f ss bs k g b o a m ft known toks z slim small few deep =
+  term_sim text number ws ts term vs (integer t v tk w) st pre mid f ss bs k g b o a m ft known toks z slim small few deep =
       leaf_sim text st pre mid f ss bs k g b o ws ws a m t (const_cell 0 v) number (flat term) refl toks
       (cell_taken text st pre mid f ss bs k g b o ws t Integer v (const_cell 0 v) TermEnd ws tk w refl refl refl refl small (omega arith))
       (known_other text (pre ++ with_arity (k + 1) f ∷ mid) ss ws (const_cell 0 v) (span_of t) refl (swapped text pre mid f (with_arity (k + 1) f) ss ws ft ft known))
-  term-sim text number ws ts term vs (float t v tk w) st pre mid f ss bs k g b o a m ft known toks z slim small few deep =
+  term_sim text number ws ts term vs (float t v tk w) st pre mid f ss bs k g b o a m ft known toks z slim small few deep =
       leaf_sim text st pre mid f ss bs k g b o ws ws a m t (const_cell 1 v) number (flat term) refl toks
       (cell_taken text st pre mid f ss bs k g b o ws t Float v (const_cell 1 v) TermEnd ws tk w refl refl refl refl small (omega arith))
       (known_other text (pre ++ with_arity (k + 1) f ∷ mid) ss ws (const_cell 1 v) (span_of t) refl (swapped text pre mid f (with_arity (k + 1) f) ss ws ft ft known))
-  term-sim text number ws ts term vs (string t tk) st pre mid f ss bs k g b o a m ft known toks z slim small few deep =
+  term_sim text number ws ts term vs (string t tk) st pre mid f ss bs k g b o a m ft known toks z slim small few deep =
       leaf_sim text st pre mid f ss bs k g b o ws ws a m t (const_cell 3 z.0.0) number (flat term) refl toks
       (cell_taken text st pre mid f ss bs k g b o ws t Text z.0.0 (const_cell 3 z.0.0) TermEnd ws tk z.0.1 refl refl refl refl small (omega arith))
       (known_other text (pre ++ with_arity (k + 1) f ∷ mid) ss ws (const_cell 3 z.0.0) (span_of t) refl (swapped text pre mid f (with_arity (k + 1) f) ss ws ft ft known))
-  term-sim text number ws ts term vs (atom t tk) st pre mid f ss bs k g b o a m ft known toks z slim small few deep =
+  term_sim text number ws ts term vs (atom t tk) st pre mid f ss bs k g b o a m ft known toks z slim small few deep =
       let c = const_cell 2 z.0.0 in
       let h = tokens_head text a m (t ∷ []) [] t refl toks in
       let e = tokens_none text t.end m [] refl h.rest in
@@ -293,7 +292,7 @@ mutual
             (cell_taken text st pre mid f ss bs k g b o ws t Name z.0.0 c NameEnd ws tk z.0.1 refl refl refl refl small (omega arith))
             (runs_at text end u NameEnd _ m t.end (sym e) (r.0, name_first text end u r.0 TermEnd _ m refl r.1));
       }
-  term-sim text number ws ts term vs (compound {ts = us} {args = args} t op cl tk ok are ck) st pre mid f ss bs k g b o a m ft known toks z slim small few deep =
+  term_sim text number ws ts term vs (compound {ts = us} {args = args} t op cl tk ok are ck) st pre mid f ss bs k g b o a m ft known toks z slim small few deep =
       let c = const_cell 2 z.0.0 in
       let h = tokens_head text a m (t ∷ op ∷ us ++ cl ∷ []) (op ∷ us ++ cl ∷ []) t refl toks in
       let h2 = tokens_head text t.end m (op ∷ us ++ cl ∷ []) (us ++ cl ∷ []) op refl h.rest in
@@ -306,7 +305,7 @@ mutual
       let lb = length-append pre (with_arity (k + 1) f ∷ mid) in
       let ld = length_push bs (bracket (length pre) (k + 1)) in
       let r =
-      terms-sim text number ws us args vs are st C [] (with_arguments c) (ss ++ span_of t ∷ []) B 0 g b o op.end sp.place refl
+      terms_sim text number ws us args vs are st C [] (with_arguments c) (ss ++ span_of t ∷ []) B 0 g b o op.end sp.place refl
       (swapped text C [] c (with_arguments c) (ss ++ span_of t ∷ []) ws refl refl q) sp.left (sized_left text us (cl ∷ []) z.1.1) slim.1 (omega (arith, slim.0)) (omega arith) (omega arith) in
       let y = sized_right text us (cl ∷ []) z.1.1 in
       let w = args_sim text st C c (ss ++ span_of t ∷ []) B g b o ws vs (count args) number (flats args) t.end m op cl z.1.0.0 y.0.0 sp.place ok ck z.1.0.1 y.0.1 (omega arith) h2.stands sp.right r in
@@ -325,27 +324,27 @@ mutual
             (w.back end u (runs_state text end u TermEnd _ _ m (ap (λ j. state st (C ++ fc ∷ w.ds) j B (length vs) g b o) (sym spans)) i));
       }
 
-  terms-sim : (text : List ℕ) (number : List ℕ → ℕ) (ws : List (List ℕ)) (ts : List Token) (args : Terms) (vs : List (List ℕ)) → AreTerms text number ws ts args vs
+  terms_sim : (text : List ℕ) (number : List ℕ → ℕ) (ws : List (List ℕ)) (ts : List Token) (args : Terms) (vs : List (List ℕ)) → AreTerms text number ws ts args vs
       → (st : ℕ) (pre mid : List Cell) (f : Cell) (ss : List Span) (bs : List Bracket) (k g : ℕ) (b o : Bool) (a m : ℕ) → eqb f.tag 0 ≡ false → Known text (pre ++ f ∷ mid) ss ws → Tokens text a ts m → Sized text ts → Slims args → k + count args ≤ 8
       → length (pre ++ f ∷ mid) + length (flats args) ≤ 32 → length bs < length (pre ++ f ∷ mid)
       → TermsSim text st pre mid f ss bs k g b o ws vs (count args) number (flats args) a m
-  terms-sim text number ws ts args vs (one-term {t = term} is) st pre mid f ss bs k g b o a m ft known toks z slim small few deep =
+  terms_sim text number ws ts args vs (one_term {t = term} is) st pre mid f ss bs k g b o a m ft known toks z slim small few deep =
       let n = ap length (append-nil (flat term)) in
-      let r = term-sim text number ws ts term vs is st pre mid f ss bs k g b o a m ft known toks z slim.0 (omega arith) (omega arith) deep in
+      let r = term_sim text number ws ts term vs is st pre mid f ss bs k g b o a m ft known toks z slim.0 (omega arith) (omega arith) deep in
       record { cs = r.cs; sp = r.sp; even = r.even ∙ sym n; level = r.level; spelt = append-nil (flat term) ∙ r.spelt; known = r.known; back = r.back }
-  terms-sim text number ws ts args vs (more-terms {vs = xs} {ts = us} {us = rs} {t = term} {args = rest} c is ck are) st pre mid f ss bs k g b o a m ft known toks z slim small few deep =
+  terms_sim text number ws ts args vs (more_terms {vs = xs} {ts = us} {us = rs} {t = term} {args = rest} c is ck are) st pre mid f ss bs k g b o a m ft known toks z slim small few deep =
       let sp = tokens_split text a m us (c ∷ rs) (us ++ c ∷ rs) refl toks in
       let h = tokens_head text sp.place m (c ∷ rs) rs c refl sp.right in
       let zr = sized_right text us (c ∷ rs) z in
       let lf = length-append (flat term) (flats rest) in
-      let r = term-sim text number ws us term xs is st pre mid f ss bs k g b o a sp.place ft known sp.left (sized_left text us (c ∷ rs) z) slim.0 (omega arith) (omega arith) deep in
+      let r = term_sim text number ws us term xs is st pre mid f ss bs k g b o a sp.place ft known sp.left (sized_left text us (c ∷ rs) z) slim.0 (omega arith) (omega arith) deep in
       let f1 = with_arity (k + 1) f in
       let split : (pre ++ f1 ∷ mid) ++ r.cs ≡ pre ++ f1 ∷ (mid ++ r.cs) = append_assoc pre (f1 ∷ mid) r.cs in
       let la = length-append pre (f ∷ mid) in
       let lb = length-append pre (f1 ∷ (mid ++ r.cs)) in
       let lm = length-append mid r.cs in
       let q =
-      terms-sim text number xs rs rest vs are st pre (mid ++ r.cs) f1 (ss ++ r.sp) bs (k + 1) g b o c.end m ft (subst (λ i. Known text i (ss ++ r.sp) xs) split r.known) h.rest zr.1 slim.1 (omega arith)
+      terms_sim text number xs rs rest vs are st pre (mid ++ r.cs) f1 (ss ++ r.sp) bs (k + 1) g b o c.end m ft (subst (λ i. Known text i (ss ++ r.sp) xs) split r.known) h.rest zr.1 slim.1 (omega arith)
       (omega (arith, r.even)) (omega arith) in
       let n : k + 1 + count rest ≡ k + suc (count rest) = omega arith in
       let f2 = with_arity (k + suc (count rest)) f in
@@ -431,7 +430,7 @@ goal_sim text number ws ts goal vs (applied {ts = us} {args = args} t op cl tk o
     let q = known_other text cs ss ws c (span_of t) refl known in
     let lc = length_push cs (with_arguments c) in
     let r =
-    terms-sim text number ws us args vs are st cs [] (with_arguments c) (ss ++ span_of t ∷ []) [] 0 n b o op.end sp.place refl
+    terms_sim text number ws us args vs are st cs [] (with_arguments c) (ss ++ span_of t ∷ []) [] 0 n b o op.end sp.place refl
     (swapped text cs [] c (with_arguments c) (ss ++ span_of t ∷ []) ws refl refl q) sp.left (sized_left text us (cl ∷ []) z.1.1) slim.1 (omega (arith, slim.0)) (omega arith) (omega arith) in
     let y = sized_right text us (cl ∷ []) z.1.1 in
     let w = args_sim text st cs c (ss ++ span_of t ∷ []) [] n b o ws vs (count args) number (flats args) t.end m op cl z.1.0.0 y.0.0 sp.place ok ck z.1.0.1 y.0.1 (omega arith) h2.stands sp.right r in
@@ -457,12 +456,12 @@ goals_sim : (text : List ℕ) (number : List ℕ → ℕ) (ws : List (List ℕ))
     → (st : ℕ) (cs : List Cell) (ss : List Span) (g : ℕ) (o : Bool) (a m : ℕ) → Known text cs ss ws → Tokens text a ts m → Sized text ts
     → SlimGoals goals → length cs + length (spell_goals goals) ≤ 32 → g + length goals ≤ 8
     → GoalSim text st cs ss g (g + length goals) true o Goal ws vs number (spell_goals goals) a m
-goals_sim text number ws ts goals vs (one-goal {g = goal} is) st cs ss g o a m known toks z slim few small =
+goals_sim text number ws ts goals vs (one_goal {g = goal} is) st cs ss g o a m known toks z slim few small =
     let n = ap length (append-nil (spell_goal goal)) in
     let r =
     goal_sim text number ws ts goal vs is st cs ss g (g + 1) true o Goal (goal_taken text st cs ss g true o ws (omega (arith, goal_cell goal)) (omega arith)) a m known toks z slim.0 (omega arith) in
     record { ds = r.ds; sp = r.sp; even = r.even ∙ sym n; level = r.level; spelt = append-nil (spell_goal goal) ∙ r.spelt; known = r.known; back = r.back }
-goals_sim text number ws ts goals vs (more-goals {vs = xs} {ts = us} {us = rs} {g = goal} {gs = rest} c is ck are) st cs ss g o a m known toks z slim few small =
+goals_sim text number ws ts goals vs (more_goals {vs = xs} {ts = us} {us = rs} {g = goal} {gs = rest} c is ck are) st cs ss g o a m known toks z slim few small =
     let sp = tokens_split text a m us (c ∷ rs) (us ++ c ∷ rs) refl toks in
     let h = tokens_head text sp.place m (c ∷ rs) rs c refl sp.right in
     let zr = sized_right text us (c ∷ rs) z in

@@ -1,38 +1,33 @@
 -- A clause, read token by token, is a clause of the grammar.
-use Rattle.std.proofs.Common.{◌≡◌, ℕ, zero, suc, ◌+◌, ◌<◌, ◌≤◌, min, Bool, true, false, cond, eqb, ltb, leb, List, [], ◌∷◌, ◌++◌, length, Some, Ok, sym, refl, ap, ◌∙◌, subst, zero-add, arith}
+use Rattle.std.proofs.Common.{◌≡◌, ℕ, zero, suc, ◌+◌, ◌<◌, ◌≤◌, min, Bool, true, false, cond, leb, List, [], ◌∷◌, ◌++◌, length, Ok, sym, refl, ap, ◌∙◌, subst, zero-add, arith}
 use Rattle.std.proofs.lemmas.List.{append_assoc, append-nil, length-append}
 use Rattle.std.proofs.lemmas.Bool.{or_parts, leb-false}
 use Rattle.terms.specs.declared.Cell.{Cell}
-use Rattle.typing.specs.Terms.{Terms, fun, none}
+use Rattle.typing.specs.Terms.{none}
 use Rattle.trees.specs.Tree.{Goal as TreeGoal}
-use Rattle.graphs.specs.Flat.{flat, flats, count}
-use Rattle.programs.specs.Spelling.{spell_goal, spell_goals, spell_clause}
+use Rattle.graphs.specs.Flat.{flats, count}
+use Rattle.programs.specs.Spelling.{spell_goal, spell_goals}
 use Rattle.lexis.specs.Tokens.{token_at, start_at}
-use Rattle.lexis.specs.Worth.{worth_of}
 use Rattle.lexis.specs.declared.token.Token.{Token}
 use Rattle.lexis.specs.declared.token.Kind.{Kind}
 use Rattle.lexis.specs.declared.token.Kind.TheVariants.{Name, Variable, Integer, Float, Text, Open, Close, Comma, Dot, Neck, Query, End}
 use Rattle.names.specs.declared.Span.{Span}
 use Rattle.names.specs.Places.{place_of}
-use Rattle.draft.specs.declared.Bracket.{Bracket}
 use Rattle.draft.specs.declared.grammar.Due.{Due}
-use Rattle.draft.specs.declared.grammar.Due.TheVariants.{Head, Goal, GoalOrDot, Argument, NameEnd, TermEnd, Nothing}
-use Rattle.draft.specs.declared.reader.Form.TheVariants.{Clause}
+use Rattle.draft.specs.declared.grammar.Due.TheVariants.{Head, Goal, NameEnd, TermEnd, Nothing}
 use Rattle.draft.specs.Drafts.{symbol_cell, cell_of, span_of}
-use Rattle.clauses.specs.Clauses.{vars_after}
-use Rattle.draft.specs.Grammar.{body_ends, head_ends}
-use Rattle.draft.specs.Sketch.{Sketch, with_arity, with_arguments, valued, celled, cell_added, added, goaled, too_many, same_variable, ReadsClause}
-use Rattle.grammar.specs.Grammar.{Tokens, word_for, IsGoal, AreGoals, IsClause, named}
+use Rattle.draft.specs.Sketch.{Sketch, with_arity, with_arguments, valued, celled, same_variable, ReadsClause}
+use Rattle.grammar.specs.Grammar.{Tokens, word_for, IsGoal, AreGoals, named}
 use Rattle.grammar.specs.Grammar.Tokens.{stop, next}
 use Rattle.grammar.specs.Grammar.IsGoal.{plain, applied}
-use Rattle.grammar.specs.Grammar.AreGoals.{one-goal, more-goals}
+use Rattle.grammar.specs.Grammar.AreGoals.{one_goal, more_goals}
 use Rattle.grammar.specs.Grammar.IsClause.{fact, rule}
 use Rattle.grammar.specs.Laws.{Written}
 use Rattle.grammar.proofs.Variables.{Known, known_other}
 use Rattle.grammar.proofs.Named.{named_append, tokens_append}
-use Rattle.grammar.proofs.Phrases.{ArgsAll, NameTail, name_tail, name_zero, both_plain, phrases, term_open}
+use Rattle.grammar.proofs.Phrases.{name_tail, name_zero, both_plain, phrases, term_open}
 use Rattle.grammar.proofs.Phrases.NameTail.{bare, bracketed}
-use Rattle.grammar.proofs.States.{state, bracket, ok_same, Step, step_of, Run, run_of, Stepped, stepped, run_state, celled_is, none_some, some_same, finished}
+use Rattle.grammar.proofs.States.{state, ok_same, Step, step_of, Run, run_of, stepped, run_state, celled_is, none_some, some_same, finished}
 
 -- a goal was read: its tokens, its cells behind those before, and the rest of the run
 pub record GoalRead (text : List ℕ) (number : List ℕ → ℕ) (end : ℕ) (u : Sketch) (st : ℕ) (cs : List Cell) (ss : List Span) (b : Bool) (ws : List (List ℕ)) (at n : ℕ) : Type 0 where
@@ -218,7 +213,7 @@ goals_kind text number end u fuel rec st cs ss ws at n small r left t Dot due s'
       ds = r.ds;
       sp = r.sp;
       stand = tokens_append text at r.place end r.ts (t ∷ []) r.stand (next t tok (subst (λ x. Tokens text t.end [] x) f.1 stop));
-      is = one-goal r.is;
+      is = one_goal r.is;
       ends = tk;
       even = r.even;
       spelt = append-nil (spell_goal r.goal) ∙ r.spelt;
@@ -240,7 +235,7 @@ goals_kind text number end u fuel rec st cs ss ws at n small r left t Comma due 
       stand =
           subst (λ x. Tokens text at x end) (sym (append_assoc r.ts (t ∷ a.ts) (a.dot ∷ [])))
           (tokens_append text at r.place end r.ts (t ∷ a.ts ++ a.dot ∷ []) r.stand (next t tok a.stand));
-      is = more-goals t r.is tk a.is;
+      is = more_goals t r.is tk a.is;
       ends = a.ends;
       even = omega (arith, length-append r.sp a.sp, length-append r.ds a.ds, r.even, a.even);
       spelt =

@@ -1,5 +1,5 @@
 -- Reading a clause is decided by the bytes up to its dot.
-use Rattle.std.proofs.Common.{◌≡◌, ℕ, zero, suc, ◌+◌, ◌-◌, ◌<◌, ◌≤◌, min, Bool, true, false, cond, ◌&&◌, eqb, ltb, leb, List, [], ◌∷◌, ◌++◌, length, get_or, take, drop, Some, None, Ok, Err, Option, Result, sym, refl, ap, ◌∙◌, subst, arith}
+use Rattle.std.proofs.Common.{◌≡◌, ℕ, suc, ◌-◌, ◌≤◌, min, Bool, true, false, cond, ◌&&◌, eqb, ltb, leb, List, [], ◌∷◌, ◌++◌, length, get_or, take, drop, Some, None, Ok, Err, Option, Result, sym, refl, ap, ◌∙◌, subst, arith}
 use Rattle.std.proofs.lemmas.List.{length_push}
 use Rattle.std.specs.Str.{bytes_eq}
 use Rattle.terms.specs.declared.Cell.{Cell}
@@ -9,7 +9,7 @@ use Rattle.lexis.specs.Worth.{word_of, worth_of, value_of, sized}
 use Rattle.lexis.specs.Spelt.{Spelt}
 use Rattle.lexis.specs.Spelt.Spelt.{name, variable, digits, minus, float, quotes, opening, closing, comma, dot, neck, query}
 use Rattle.lexis.specs.declared.fault.Fault.{Fault}
-use Rattle.lexis.specs.declared.fault.Cause.TheVariants.{Grammar, Question as TooLarge}
+use Rattle.lexis.specs.declared.fault.Cause.TheVariants.{Question as TooLarge}
 use Rattle.lexis.specs.declared.token.Token.{Token}
 use Rattle.lexis.specs.declared.token.Kind.{Kind}
 use Rattle.lexis.specs.declared.token.Kind.TheVariants.{Name, Variable, Integer, Float, Text, Open, Close, Comma, Dot, Neck, Query, End}
@@ -20,13 +20,13 @@ use Rattle.draft.specs.declared.grammar.Due.TheVariants.{Head, Goal, GoalOrDot, 
 use Rattle.draft.specs.declared.reader.Form.TheVariants.{Clause}
 use Rattle.draft.specs.Drafts.{cell_of, span_of, word_span, makes_cell}
 use Rattle.draft.specs.Grammar.{after}
-use Rattle.draft.specs.Sketch.{Sketch, blank, argued, argued_by, one_more, innermost, counted_as, full, with_cell, celled, opened, opened_in, is_variable, same_variable, valued, added, entered_as, entered, too_many, failed, goes_on, sized_in, fitting, taken, Reads, ReadsClause}
+use Rattle.draft.specs.Sketch.{Sketch, blank, argued, argued_by, one_more, innermost, counted_as, full, with_cell, celled, opened, is_variable, same_variable, valued, added, entered_as, entered, too_many, failed, goes_on, sized_in, fitting, taken, Reads, ReadsClause}
 use Rattle.draft.specs.Sketch.Reads.{last, more}
 use Rattle.grammar.specs.Grammar.{Tokens, IsClause}
 use Rattle.grammar.specs.Grammar.Tokens.{stop, next}
 use Rattle.grammar.specs.Grammar.IsClause.{fact, rule}
 use Rattle.grammar.specs.Laws.{Dotted}
-use Rattle.grammar.proofs.States.{never, ok_same, none_some, Step, step_of, Run, run_of, finished}
+use Rattle.grammar.proofs.States.{never, ok_same, none_some, step_of, Run, run_of}
 use Rattle.grammar.proofs.States.Run.{done, step}
 use Rattle.grammar.proofs.Bytes.{Stands, stands_at, long_enough, token_same, word_same, word_byte, word_length}
 use Rattle.grammar.proofs.Clauses.{clause_written}

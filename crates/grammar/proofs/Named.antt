@@ -1,11 +1,9 @@
 -- Cells with their words' numbers, and tokens, put behind others.
-use Rattle.std.proofs.Common.{◌≡◌, ℕ, zero, suc, ◌+◌, List, [], ◌∷◌, ◌++◌, length, sym, refl, ap, ◌∙◌, subst, arith}
+use Rattle.std.proofs.Common.{◌≡◌, ℕ, List, [], ◌∷◌, ◌++◌, length, refl, ap, arith}
 use Rattle.terms.specs.declared.Cell.{Cell}
 use Rattle.lexis.specs.declared.token.Token.{Token}
 use Rattle.names.specs.declared.Span.{Span}
 use Rattle.names.specs.Spans.{word_at}
-use Rattle.typing.specs.Terms.{Term, Terms, more}
-use Rattle.graphs.specs.Flat.{flat, flats}
 use Rattle.grammar.specs.Grammar.{Tokens, name_as, named}
 use Rattle.grammar.specs.Grammar.Tokens.{stop, next}
 

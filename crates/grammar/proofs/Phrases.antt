@@ -1,5 +1,5 @@
 -- Terms in brackets, read token by token, are terms of the grammar.
-use Rattle.std.proofs.Common.{◌≡◌, ℕ, zero, suc, ◌+◌, ◌-◌, ◌<◌, ◌≤◌, Bool, true, false, cond, eqb, ltb, leb, ◌⊎◌, List, [], ◌∷◌, ◌++◌, length, Some, None, Ok, sym, refl, ap, ◌∙◌, subst, inl, inr, zero-add, arith}
+use Rattle.std.proofs.Common.{◌≡◌, ℕ, zero, suc, ◌+◌, ◌<◌, ◌≤◌, Bool, true, false, cond, eqb, ltb, leb, List, [], ◌∷◌, ◌++◌, length, Some, None, Ok, sym, refl, ap, ◌∙◌, subst, zero-add, arith}
 use Rattle.std.proofs.lemmas.List.{length_push, append_assoc, append-nil, length-append}
 use Rattle.std.proofs.lemmas.Bool.{lt-ltb}
 use Rattle.terms.specs.declared.Cell.{Cell}
@@ -11,23 +11,22 @@ use Rattle.lexis.specs.declared.token.Token.{Token}
 use Rattle.lexis.specs.declared.token.Kind.{Kind}
 use Rattle.lexis.specs.declared.token.Kind.TheVariants.{Name, Variable, Integer, Float, Text, Open, Close, Comma, Dot, Neck, Query, End}
 use Rattle.names.specs.declared.Span.{Span}
-use Rattle.names.specs.Spans.{word_at}
 use Rattle.draft.specs.declared.Bracket.{Bracket}
 use Rattle.draft.specs.declared.grammar.Due.{Due}
-use Rattle.draft.specs.declared.grammar.Due.TheVariants.{Head, Goal, GoalOrDot, Argument, NameEnd, TermEnd, Nothing}
+use Rattle.draft.specs.declared.grammar.Due.TheVariants.{Argument, NameEnd, TermEnd, Nothing}
 use Rattle.draft.specs.declared.reader.Form.TheVariants.{Clause}
 use Rattle.draft.specs.Drafts.{var_cell, const_cell, cell_of, span_of}
 use Rattle.clauses.specs.Clauses.{vars_after}
-use Rattle.draft.specs.Grammar.{after, term_ends, inside_ends, name_ends}
-use Rattle.draft.specs.Sketch.{Sketch, with_arity, with_arguments, valued, variable_number, celled, cell_added, added, argued, too_many, taken}
+use Rattle.draft.specs.Grammar.{after, term_ends, inside_ends}
+use Rattle.draft.specs.Sketch.{Sketch, with_arity, with_arguments, valued, celled, cell_added, added, too_many}
 use Rattle.grammar.specs.Grammar.{Tokens, word_for, variable_in, with_variable, IsTerm, AreTerms, named}
 use Rattle.grammar.specs.Grammar.Tokens.{stop, next}
 use Rattle.grammar.specs.Grammar.IsTerm.{variable, integer, float, atom, string, compound}
-use Rattle.grammar.specs.Grammar.AreTerms.{one-term, more-terms}
+use Rattle.grammar.specs.Grammar.AreTerms.{one_term, more_terms}
 use Rattle.grammar.proofs.Variables.{Known, known_other, known_swap, known_variable, variable_number_lem, count_number}
 use Rattle.grammar.proofs.Named.{named_append, tokens_append}
-use Rattle.grammar.proofs.States.Run.{done, step}
-use Rattle.grammar.proofs.States.{state, bracket, never, ok_same, Step, step_of, taken_of, Run, Stepped, stepped, run_state, argued_is, celled_is, opened_is, closed_is, argument_room, none_some, some_same, after_name}
+use Rattle.grammar.proofs.States.Run.{step}
+use Rattle.grammar.proofs.States.{state, bracket, never, ok_same, Step, step_of, taken_of, Run, stepped, run_state, argued_is, celled_is, opened_is, closed_is, argument_room, none_some, some_same, after_name}
 
 -- a term was read where an argument was due: its tokens, its cells behind those before, one argument more in the bracket, and the rest of the run
 pub record TermRead (text : List ℕ) (number : List ℕ → ℕ) (end : ℕ) (u : Sketch) (st : ℕ) (pre mid : List Cell) (f : Cell) (ss : List Span) (bs : List Bracket) (k g : ℕ) (b o : Bool)
@@ -333,7 +332,7 @@ args_kind text number end u fuel args st pre mid f ss bs k g b o ws at n ft smal
       sp = r.sp;
       less = omega (arith, r.less);
       stand = tokens_append text at r.place t.end r.ts (t ∷ []) r.stand (next t tok stop);
-      is = one-term r.is;
+      is = one_term r.is;
       closes = tk;
       even = r.even;
       spelt = append-nil (flat r.term) ∙ r.spelt;
@@ -368,7 +367,7 @@ args_kind text number end u fuel args st pre mid f ss bs k g b o ws at n ft smal
       stand =
           subst (λ x. Tokens text at x a.place) (sym (append_assoc r.ts (t ∷ a.ts) (a.close ∷ [])))
           (tokens_append text at r.place a.place r.ts (t ∷ a.ts ++ a.close ∷ []) r.stand (next t tok a.stand));
-      is = more-terms t r.is tk a.is;
+      is = more_terms t r.is tk a.is;
       closes = a.closes;
       even = omega (arith, length-append r.sp a.sp, length-append r.cs a.cs, r.even, a.even);
       spelt =

@@ -1,7 +1,7 @@
 -- What one token does to a clause as far as it is read.
-use Rattle.std.proofs.Common.{◌≡◌, ℕ, zero, suc, ◌+◌, ◌-◌, ◌<◌, ◌≤◌, min, Bool, true, false, cond, ◌&&◌, ◌||◌, eqb, ltb, leb, ◌⊎◌, List, [], ◌∷◌, ◌++◌, length, get_or, take, set, Some, None, Ok, Err, Option, Result, sym, refl, ap, ◌∙◌, subst, inl, inr, arith}
-use Rattle.std.proofs.lemmas.List.{length_push, get_or_push, get_or_at, set_at, take_at, append_assoc, length-append}
-use Rattle.std.proofs.lemmas.Bool.{cond-true, cond-false, cases_Bool, ne_eqb, or_parts, leb-false, lt-leb, both_ways}
+use Rattle.std.proofs.Common.{◌≡◌, ℕ, suc, ◌+◌, ◌-◌, ◌<◌, min, Bool, false, ◌&&◌, eqb, ltb, leb, List, [], ◌∷◌, ◌++◌, length, set, Some, None, Ok, Err, Option, Result, sym, refl, ap, ◌∙◌, subst, inl, inr, arith}
+use Rattle.std.proofs.lemmas.List.{length_push, get_or_push, get_or_at, set_at, take_at}
+use Rattle.std.proofs.lemmas.Bool.{cond-true, cond-false, cases_Bool, ne_eqb, or_parts, leb-false, lt-leb}
 use Rattle.terms.specs.declared.Cell.{Cell}
 use Rattle.lexis.specs.Tokens.{token_at}
 use Rattle.lexis.specs.Worth.{worth_of}
@@ -13,13 +13,13 @@ use Rattle.lexis.specs.declared.token.Kind.TheVariants.{Name, Variable, Integer,
 use Rattle.names.specs.declared.Span.{Span}
 use Rattle.draft.specs.declared.Bracket.{Bracket}
 use Rattle.draft.specs.declared.grammar.Due.{Due}
-use Rattle.draft.specs.declared.grammar.Due.TheVariants.{Head, Goal, GoalOrDot, Argument, NameEnd, TermEnd, Nothing}
+use Rattle.draft.specs.declared.grammar.Due.TheVariants.{Argument, NameEnd, TermEnd, Nothing}
 use Rattle.draft.specs.declared.reader.Form.TheVariants.{Clause}
-use Rattle.draft.specs.Drafts.{cell_of, span_of, makes_cell}
+use Rattle.draft.specs.Drafts.{makes_cell}
 use Rattle.clauses.specs.Clauses.{vars_after}
 use Rattle.draft.specs.Grammar.{after}
-use Rattle.draft.specs.Sketch.{Sketch, argued, argued_by, one_more, innermost, no_bracket, no_cell, with_arity, with_arguments, goaled, counted_as, full, with_cell, celled, opened, opened_in, closed, valued, cell_added, added, entered_as, entered, too_many, failed, goes_on, sized_in, fitting, taken, Reads}
-use Rattle.draft.specs.Sketch.Reads.{no-token, misfit, last, more}
+use Rattle.draft.specs.Sketch.{Sketch, argued, argued_by, one_more, innermost, no_bracket, no_cell, with_arity, with_arguments, full, with_cell, celled, opened, opened_in, closed, entered_as, entered, too_many, failed, goes_on, sized_in, fitting, taken, Reads}
+use Rattle.draft.specs.Sketch.Reads.{no_token, misfit, last, more}
 
 abbrev pub state : ℕ → List Cell → List Span → List Bracket → ℕ → ℕ → Bool → Bool → Sketch
 state st cs ss bs v g b o = record { start = st; cells = cs; spans = ss; brackets = bs; vars = v; goals = g; body = b; over = o }
@@ -83,7 +83,7 @@ pub data Run (text : List ℕ) (end : ℕ) (u : Sketch) : ℕ → Due → Sketch
 
 pub run_of : (text : List ℕ) (due : Due) (s : Sketch) (at end : ℕ) (u : Sketch) (r : Result (ℕ × Sketch) Fault) → r ≡ Ok (end, u) → Reads text Clause due s at r
     → (n : ℕ) × Run text end u n due s at
-run_of text due s at end u r e (no-token h) = absurd (never e)
+run_of text due s at end u r e (no_token h) = absurd (never e)
 run_of text due s at end u r e (misfit t h k) = absurd (never e)
 run_of text due s at end u r e (last {s' = s'} {end = end'} t h k j) =
     let p : ◌≡◌ {A = ℕ × Sketch} (end', s') (end, u) = ok_same e in
@@ -102,8 +102,8 @@ pub record Stepped (text : List ℕ) (end : ℕ) (u : Sketch) (n : ℕ) (due : D
   pub after_it : Sketch
   pub count : n ≡ suc left
   pub stands : token_at text at ≡ Ok token
-  pub took : taken text Clause due s token ≡ Ok (next, after-it)
-  pub rest : Run text end u left next after-it token.end
+  pub took : taken text Clause due s token ≡ Ok (next, after_it)
+  pub rest : Run text end u left next after_it token.end
 
 pub stepped : (text : List ℕ) (end : ℕ) (u : Sketch) (n : ℕ) (due : Due) (s : Sketch) (at : ℕ) → (due ≡ Nothing → ⊥) → Run text end u n due s at → Stepped text end u n due s at
 stepped text end u n due s at h done = absurd (h refl)

@@ -44,8 +44,8 @@ mutual
 
   -- one or more terms, joined by commas
   pub data AreTerms (text : List ℕ) (number : List ℕ → ℕ) : List (List ℕ) → List Token → Terms → List (List ℕ) → Type 0 where
-    one-term : {ws vs : List (List ℕ)} {ts : List Token} {t : Term} → IsTerm text number ws ts t vs → AreTerms text number ws ts (more t none) vs
-    more-terms : {ws vs xs : List (List ℕ)} {ts us : List Token} {t : Term} {args : Terms} (c : Token) → IsTerm text number ws ts t vs → c.kind ≡ Comma → AreTerms text number vs us args xs
+    one_term : {ws vs : List (List ℕ)} {ts : List Token} {t : Term} → IsTerm text number ws ts t vs → AreTerms text number ws ts (more t none) vs
+    more_terms : {ws vs xs : List (List ℕ)} {ts us : List Token} {t : Term} {args : Terms} (c : Token) → IsTerm text number ws ts t vs → c.kind ≡ Comma → AreTerms text number vs us args xs
         → AreTerms text number ws (ts ++ c ∷ us) (more t args) xs
 
 -- a goal is a name, or a name with terms in brackets

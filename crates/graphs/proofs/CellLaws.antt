@@ -1,15 +1,13 @@
-use Rattle.std.proofs.Common.{◌≡◌, ℕ, zero, suc, ◌+◌, ◌-◌, ◌*◌, ◌<◌, ◌≤◌, Bool, true, false, cond, eqb, ltb, ◌≢◌, List, [], ◌∷◌, ◌++◌, map, length, get_or, take, drop, set, sym, refl, ap, ◌∙◌, subst, arith, le-ltb, lt-ltb, eq-eqb, ne_eqb}
+use Rattle.std.proofs.Common.{◌≡◌, ℕ, zero, suc, ◌+◌, ◌-◌, ◌<◌, ◌≤◌, ◌≢◌, List, [], ◌∷◌, map, length, get_or, drop, sym, refl, ap, ◌∙◌, subst, arith, le-ltb, lt-ltb, eq-eqb, ne_eqb}
 use lib.ListN.{length-map}
-use native.Mathlib.Decide.{dec_le, dec_lt, ℕ_discrete}
-use Rattle.std.proofs.lemmas.List.{get_or_past, drop_more, drop_all, length-drop, take_more_set, append_assoc, append-nil}
+use native.Mathlib.Decide.{dec_lt, ℕ_discrete}
+use Rattle.std.proofs.lemmas.List.{get_or_past, drop_more, drop_all, length-drop}
 use Rattle.graphs.specs.declared.Pair.{Pair}
 use Rattle.terms.specs.declared.Cell.{Cell}
-use Rattle.graphs.specs.Terms.{KTerm, base, kfun}
-use Rattle.graphs.specs.Graph.{Shape, free, atom, app, Graph, Each, Values, onto}
-use Rattle.graphs.specs.Meaning.{kind_algebra, Forward, Live}
-use Rattle.graphs.specs.Cells.{blank, span, after, node_of, node_at, arguments, shape_of, graph, arity_sh}
-use Rattle.graphs.proofs.Walks.{each_map}
-use Rattle.graphs.proofs.Turns.{Laws}
+use Rattle.graphs.specs.Terms.{KTerm, base}
+use Rattle.graphs.specs.Graph.{free, atom, app, Values, onto}
+use Rattle.graphs.specs.Meaning.{kind_algebra, Live}
+use Rattle.graphs.specs.Cells.{blank, span, after, node_at, arguments, graph}
 use Rattle.graphs.proofs.Instances.{kind_laws}
 
 pub arguments_length : (cs : List Cell) (n p : ℕ) → length (arguments cs n p) ≡ n
@@ -17,44 +15,44 @@ arguments_length cs zero p = refl
 arguments_length cs (suc n) p = ap suc (arguments_length cs n (after cs p))
 
 module _ (cs : List Cell) (n : ℕ) where
-  pub graph-free : length cs ≤ n → graph cs n ≡ free
-  graph-free h = rw (le-ltb n (length cs) h)
+  pub graph_free : length cs ≤ n → graph cs n ≡ free
+  graph_free h = rw (le-ltb n (length cs) h)
 
-  pub graph-app : n < length cs → (get_or cs n blank).tag ≡ 2 → graph cs n ≡ app (get_or cs n blank).value (arguments cs (get_or cs n blank).arity (n + 1))
-  graph-app h t = rw (lt-ltb n (length cs) h, eq-eqb (get_or cs n blank).tag 2 t)
+  pub graph_app : n < length cs → (get_or cs n blank).tag ≡ 2 → graph cs n ≡ app (get_or cs n blank).value (arguments cs (get_or cs n blank).arity (n + 1))
+  graph_app h t = rw (lt-ltb n (length cs) h, eq-eqb (get_or cs n blank).tag 2 t)
 
-  pub graph-atom : n < length cs → (get_or cs n blank).tag ≢ 2 → graph cs n ≡ atom (get_or cs n blank).form (get_or cs n blank).value
-  graph-atom h t = rw (lt-ltb n (length cs) h, ne_eqb (get_or cs n blank).tag 2 t)
+  pub graph_atom : n < length cs → (get_or cs n blank).tag ≢ 2 → graph cs n ≡ atom (get_or cs n blank).form (get_or cs n blank).value
+  graph_atom h t = rw (lt-ltb n (length cs) h, ne_eqb (get_or cs n blank).tag 2 t)
 
 module _ (kind : ℕ → ℕ → ℕ) (cs : List Cell) (r q : ℕ) (hr : r < length cs) (hq : q < length cs) (ρ : ℕ → KTerm) (val : Values (kind_algebra kind) (graph cs) ρ) (e : ρ r ≡ ρ q) where
-  pub clash-apps : (get_or cs r blank).tag ≡ 2 → (get_or cs q blank).tag ≡ 2
+  pub clash_apps : (get_or cs r blank).tag ≡ 2 → (get_or cs q blank).tag ≡ 2
       → ¬ (((get_or cs r blank).value ≡ (get_or cs q blank).value) × ((get_or cs r blank).arity ≡ (get_or cs q blank).arity)) → ⊥
-  clash-apps a b ne =
+  clash_apps a b ne =
       let L = kind_laws kind in
       let x = get_or cs r blank in let y = get_or cs q blank in
       let xs = map ρ (arguments cs x.arity (r + 1)) in let ys = map ρ (arguments cs y.arity (q + 1)) in
-      let m = sym (val.apps r x.value (arguments cs x.arity (r + 1)) (graph-app cs r hr a)) ∙ (e ∙ val.apps q y.value (arguments cs y.arity (q + 1)) (graph-app cs q hq b)) in
+      let m = sym (val.apps r x.value (arguments cs x.arity (r + 1)) (graph_app cs r hr a)) ∙ (e ∙ val.apps q y.value (arguments cs y.arity (q + 1)) (graph_app cs q hq b)) in
       let i = L.app_symbol x.value y.value xs ys m in
       let j = ap length (L.app_parts x.value y.value xs ys m) in
       let k = length-map (arguments cs x.arity (r + 1)) ρ ∙ arguments_length cs x.arity (r + 1) in
       let l = length-map (arguments cs y.arity (q + 1)) ρ ∙ arguments_length cs y.arity (q + 1) in
       ne (i, sym k ∙ (j ∙ l))
 
-  pub clash-app-atom : (get_or cs r blank).tag ≡ 2 → (get_or cs q blank).tag ≢ 2 → ⊥
-  clash-app-atom a b =
+  pub clash_app_atom : (get_or cs r blank).tag ≡ 2 → (get_or cs q blank).tag ≢ 2 → ⊥
+  clash_app_atom a b =
       let x = get_or cs r blank in let y = get_or cs q blank in
       (kind_laws kind).app_atom x.value y.form y.value (map ρ (arguments cs x.arity (r + 1)))
-      (sym (val.apps r x.value (arguments cs x.arity (r + 1)) (graph-app cs r hr a)) ∙ (e ∙ val.atoms q y.form y.value (graph-atom cs q hq b)))
+      (sym (val.apps r x.value (arguments cs x.arity (r + 1)) (graph_app cs r hr a)) ∙ (e ∙ val.atoms q y.form y.value (graph_atom cs q hq b)))
 
-  pub clash-atom-app : (get_or cs r blank).tag ≢ 2 → (get_or cs q blank).tag ≡ 2 → ⊥
-  clash-atom-app a b =
+  pub clash_atom_app : (get_or cs r blank).tag ≢ 2 → (get_or cs q blank).tag ≡ 2 → ⊥
+  clash_atom_app a b =
       let x = get_or cs q blank in let y = get_or cs r blank in
       (kind_laws kind).app_atom x.value y.form y.value (map ρ (arguments cs x.arity (q + 1)))
-      (sym (val.apps q x.value (arguments cs x.arity (q + 1)) (graph-app cs q hq b)) ∙ (sym e ∙ val.atoms r y.form y.value (graph-atom cs r hr a)))
+      (sym (val.apps q x.value (arguments cs x.arity (q + 1)) (graph_app cs q hq b)) ∙ (sym e ∙ val.atoms r y.form y.value (graph_atom cs r hr a)))
 
-  pub clash-atoms : (get_or cs r blank).tag ≢ 2 → (get_or cs q blank).tag ≢ 2 → kind (get_or cs r blank).form (get_or cs r blank).value ≢ kind (get_or cs q blank).form (get_or cs q blank).value → ⊥
-  clash-atoms a b ne =
-      let m = sym (val.atoms r (get_or cs r blank).form (get_or cs r blank).value (graph-atom cs r hr a)) ∙ (e ∙ val.atoms q (get_or cs q blank).form (get_or cs q blank).value (graph-atom cs q hq b)) in
+  pub clash_atoms : (get_or cs r blank).tag ≢ 2 → (get_or cs q blank).tag ≢ 2 → kind (get_or cs r blank).form (get_or cs r blank).value ≢ kind (get_or cs q blank).form (get_or cs q blank).value → ⊥
+  clash_atoms a b ne =
+      let m = sym (val.atoms r (get_or cs r blank).form (get_or cs r blank).value (graph_atom cs r hr a)) ∙ (e ∙ val.atoms q (get_or cs q blank).form (get_or cs q blank).value (graph_atom cs q hq b)) in
       ne (base-inj (kind (get_or cs r blank).form (get_or cs r blank).value) (kind (get_or cs q blank).form (get_or cs q blank).value) m)
     where
       base-inj : (a b : ℕ) → base a ≡ base b → a ≡ b
@@ -105,7 +103,7 @@ app_inside cs r s ks e = go (dec_lt r (length cs))
   where
     go : Dec (r < length cs) → r < length cs
     go (yes h) = h
-    go (no h) = let f = graph-free cs r (omega arith) in let i : app s ks ≡ free = sym e ∙ f in let z : ◌≡◌ {A = ℕ} 0 1 = cc in absurd (omega arith)
+    go (no h) = let f = graph_free cs r (omega arith) in let i : app s ks ≡ free = sym e ∙ f in let z : ◌≡◌ {A = ℕ} 0 1 = cc in absurd (omega arith)
 
 -- the node of a term is a variable's or a cell's
 pub node_alive : (cs : List Cell) → length cs ≤ 1568 → (x : ℕ) → Live 1568 (graph cs) (node_at cs x)
@@ -115,8 +113,8 @@ node_alive cs small x = go (ℕ_discrete (get_or cs x blank).tag 0) (dec_lt x (l
     solid i f = at (ℕ_discrete (get_or cs x blank).tag 2)
       where
         at : Dec ((get_or cs x blank).tag ≡ 2) → ⊥
-        at (yes t) = let g = sym (graph-app cs x i t) ∙ f in let z : ◌≡◌ {A = ℕ} 0 1 = cc in omega arith
-        at (no t) = let g = sym (graph-atom cs x i t) ∙ f in let z : ◌≡◌ {A = ℕ} 0 1 = cc in omega arith
+        at (yes t) = let g = sym (graph_app cs x i t) ∙ f in let z : ◌≡◌ {A = ℕ} 0 1 = cc in omega arith
+        at (no t) = let g = sym (graph_atom cs x i t) ∙ f in let z : ◌≡◌ {A = ℕ} 0 1 = cc in omega arith
 
     go : Dec ((get_or cs x blank).tag ≡ 0) → Dec (x < length cs) → Live 1568 (graph cs) (node_at cs x)
     go (yes t) d = rw (eq-eqb (get_or cs x blank).tag 0 t) (λ _. omega arith)

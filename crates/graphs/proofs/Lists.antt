@@ -1,6 +1,6 @@
-use Rattle.std.proofs.Common.{◌≡◌, ℕ, zero, suc, ◌+◌, ◌-◌, ◌*◌, ◌<◌, ◌≤◌, Bool, true, false, eqb, ◌≢◌, ◌⊎◌, List, [], ◌∷◌, ◌++◌, map, length, get_or, take, drop, set, sym, refl, ap, ◌∙◌, subst, inl, inr, add-zero, arith, eq-eqb, ne_eqb}
+use Rattle.std.proofs.Common.{◌≡◌, ℕ, zero, suc, ◌+◌, ◌-◌, ◌*◌, ◌<◌, ◌≤◌, Bool, true, false, eqb, ◌≢◌, ◌⊎◌, List, [], ◌∷◌, ◌++◌, length, get_or, take, drop, set, sym, refl, ap, ◌∙◌, subst, inl, inr, add-zero, arith, eq-eqb, ne_eqb}
 use native.Mathlib.Decide.{dec_le, dec_lt, ℕ_discrete}
-use Rattle.std.proofs.lemmas.List.{set-set, set-get_or, get_or-set_same, get_or-set_other, get_or_default, get_or_past, length-set, take_more_set, take_more, take-set-le, take-append-le, drop-append-le, length-append, length-take-le, drop_all, take_all, set_past, take-take, take-append-drop, drop_at, append-nil}
+use Rattle.std.proofs.lemmas.List.{set-set, set-get_or, get_or-set_same, get_or-set_other, get_or_default, get_or_past, length-set, take_more, take-append-le, drop-append-le, length-append, length-take-le, drop_all, take_all, set_past, take-take, take-append-drop}
 use Rattle.graphs.specs.Graph.{Linked}
 use Rattle.graphs.specs.Links.{up_of, counted, weight, restore, ones, Logged}
 

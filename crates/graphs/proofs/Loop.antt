@@ -1,13 +1,12 @@
-use Rattle.std.proofs.Common.{◌≡◌, ℕ, zero, suc, ◌+◌, ◌-◌, ◌<◌, ◌≤◌, Bool, true, false, ◌≢◌, ◌⊎◌, ◌↔◌, List, [], ◌∷◌, ◌++◌, map, length, sym, refl, ap, ◌∙◌, subst, inl, inr, arith}
+use Rattle.std.proofs.Common.{◌≡◌, ℕ, zero, suc, ◌+◌, ◌-◌, ◌<◌, ◌≤◌, Bool, true, false, ◌≢◌, List, [], ◌∷◌, map, length, sym, refl, ap, ◌∙◌, subst, inl, inr, arith}
 use lib.ListN.{length-map}
-use native.Mathlib.Decide.{ℕ_discrete, dec_le}
-use Rattle.graphs.specs.Terms.{Term, Terms, var, con, fun, none, more, KTerm, KTerms, base, kfun, knone, kmore, Subst, apply, applies, kinds, kinds*, pack, kpack}
-use Rattle.graphs.specs.Graph.{Shape, free, atom, app, Graph, Algebra, Each, Pair, pairs, onto, walk, find, Atoms, Apps, Values, Stacked, Sat, Closed, Sound, Linked, Ordered, Solves, Tie, solution}
-use Rattle.graphs.specs.Meaning.{term_algebra, kind_algebra, arena, Forward, Live, AllLive, same_node, value, decode, Unifies, Fits, answer, MostGeneral, NoKinds, KindsOnly, Going}
-use Rattle.graphs.proofs.Walks.{each_map, map_each, walk-fixed, walk-keeps, find-root, find-up}
-use Rattle.graphs.proofs.Final.{solution-values, solution-image, solution-free, solution-sat}
-use Rattle.graphs.proofs.Turns.{Laws, drop-turn, clash-turn, free-turn, app-turn, tie-back, stacked-append, stacked-left, stacked-right}
-use Rattle.graphs.proofs.Instances.{term_laws, kind_laws, same_sound, same_closed, forward_ordered, value-values, value-free, unifies-stacked, stacked-unifies, fits-stacked, stacked-fits, stacked-live, apply-decode, kinds-decode, applies_pack}
+use native.Mathlib.Decide.{ℕ_discrete}
+use Rattle.graphs.specs.Terms.{Term, var, con, fun, KTerm, base, apply}
+use Rattle.graphs.specs.Graph.{free, atom, app, Graph, Pair, onto, walk, Values, Stacked, Sound, Linked, Ordered, Tie, solution}
+use Rattle.graphs.specs.Meaning.{term_algebra, kind_algebra, arena, Forward, Live, AllLive, same_node, value, Fits, answer, MostGeneral, NoKinds, KindsOnly, Going}
+use Rattle.graphs.proofs.Final.{solution_values, solution_image, solution_sat}
+use Rattle.graphs.proofs.Turns.{drop_turn, clash_turn, free_turn, app_turn, tie_back}
+use Rattle.graphs.proofs.Instances.{term_laws, kind_laws, same_sound, same_closed, value_values, value_free, unifies_stacked, stacked_unifies, fits_stacked, stacked_fits, stacked_live, applies_pack}
 
 -- how the links keep their shape
 pub free_sound : (g : Graph) (up up' : ℕ → ℕ) (r q : ℕ) → Sound g up → Linked up r q up' → q ≤ r → g r ≡ free → Sound g up'
@@ -61,59 +60,59 @@ module _ (kind : ℕ → ℕ → ℕ) (g : Graph) (E : List Pair) where
       sound = going.sound;
       tied = going.tied;
       bare = going.bare;
-      on_kinds = drop-turn (kind_algebra kind) g _ up st p going.on_kinds (λ ρ at l. tie-back (kind_algebra kind) up p r q tie ρ l (ap ρ e));
-      on_terms = λ t. drop-turn term_algebra g _ up st p (going.on_terms t) (λ ρ at l. tie-back term_algebra up p r q tie ρ l (ap ρ e));
+      on_kinds = drop_turn (kind_algebra kind) g _ up st p going.on_kinds (λ ρ at l. tie_back (kind_algebra kind) up p r q tie ρ l (ap ρ e));
+      on_terms = λ t. drop_turn term_algebra g _ up st p (going.on_terms t) (λ ρ at l. tie_back term_algebra up p r q tie ρ l (ap ρ e));
       dead = going.dead;
     }
 
     -- equal constants
-    pub equal-turn : (f v : ℕ) → g r ≡ atom f v → g q ≡ atom f v → Going kind g E flag up st
-    equal-turn f v a b = record {
+    pub equal_turn : (f v : ℕ) → g r ≡ atom f v → g q ≡ atom f v → Going kind g E flag up st
+    equal_turn f v a b = record {
       sound = going.sound;
       tied = going.tied;
       bare = going.bare;
-      on_kinds = drop-turn (kind_algebra kind) g _ up st p going.on_kinds
-          (λ ρ at l. tie-back (kind_algebra kind) up p r q tie ρ l (at r f v a ∙ sym (at q f v b)));
-      on_terms = λ t. drop-turn term_algebra g _ up st p (going.on_terms t)
-          (λ ρ at l. tie-back term_algebra up p r q tie ρ l (at r f v a ∙ sym (at q f v b)));
+      on_kinds = drop_turn (kind_algebra kind) g _ up st p going.on_kinds
+          (λ ρ at l. tie_back (kind_algebra kind) up p r q tie ρ l (at r f v a ∙ sym (at q f v b)));
+      on_terms = λ t. drop_turn term_algebra g _ up st p (going.on_terms t)
+          (λ ρ at l. tie_back term_algebra up p r q tie ρ l (at r f v a ∙ sym (at q f v b)));
       dead = going.dead;
     }
 
     -- unequal constants of one kind
-    pub unequal-turn : (f v f' v' : ℕ) → g r ≡ atom f v → g q ≡ atom f' v' → kind f v ≡ kind f' v' → ¬ ((f ≡ f') × (v ≡ v')) → Going kind g E false up st
-    unequal-turn f v f' v' a b k apart = record {
+    pub unequal_turn : (f v f' v' : ℕ) → g r ≡ atom f v → g q ≡ atom f' v' → kind f v ≡ kind f' v' → ¬ ((f ≡ f') × (v ≡ v')) → Going kind g E false up st
+    unequal_turn f v f' v' a b k apart = record {
       sound = going.sound;
       tied = going.tied;
       bare = going.bare;
-      on_kinds = drop-turn (kind_algebra kind) g _ up st p going.on_kinds
-          (λ ρ at l. tie-back (kind_algebra kind) up p r q tie ρ l (at r f v a ∙ (ap base k ∙ sym (at q f' v' b))));
+      on_kinds = drop_turn (kind_algebra kind) g _ up st p going.on_kinds
+          (λ ρ at l. tie_back (kind_algebra kind) up p r q tie ρ l (at r f v a ∙ (ap base k ∙ sym (at q f' v' b))));
       on_terms = λ e. let z : ◌≡◌ {A = ℕ} 0 1 = cc in absurd (omega arith);
       dead = λ _. none_left flag refl;
     }
       where
         none_left : (b : Bool) → flag ≡ b → (ρ : ℕ → Term) → Values term_algebra g ρ → ¬ Stacked term_algebra ρ E
         none_left false e = going.dead e
-        none_left true e = clash-turn term_algebra g _ up st p (going.on_terms e) r q tie
+        none_left true e = clash_turn term_algebra g _ up st p (going.on_terms e) r q tie
             (λ ρ val i. let c = val.atoms r f v a in let d = val.atoms q f' v' b in let m : con f v ≡ con f' v' = cc in
             let m0 : f ≡ f' = cc in let m1 : v ≡ v' = cc in apart (m0, m1))
 
     -- constants of two kinds
-    pub kinds-clash : (f v f' v' : ℕ) → g r ≡ atom f v → g q ≡ atom f' v' → kind f v ≢ kind f' v' → (ρ : ℕ → KTerm) → Values (kind_algebra kind) g ρ → ¬ Stacked (kind_algebra kind) ρ E
-    kinds-clash f v f' v' a b apart = clash-turn (kind_algebra kind) g _ up st p going.on_kinds r q tie
+    pub kinds_clash : (f v f' v' : ℕ) → g r ≡ atom f v → g q ≡ atom f' v' → kind f v ≢ kind f' v' → (ρ : ℕ → KTerm) → Values (kind_algebra kind) g ρ → ¬ Stacked (kind_algebra kind) ρ E
+    kinds_clash f v f' v' a b apart = clash_turn (kind_algebra kind) g _ up st p going.on_kinds r q tie
         (λ ρ val i. let c = val.atoms r f v a in let d = val.atoms q f' v' b in let m : base (kind f v) ≡ base (kind f' v') = cc in apart (cc))
 
     -- a constant and a function, either way round
-    pub atom-app-clash : (f v s : ℕ) (ks : List ℕ) → g r ≡ atom f v → g q ≡ app s ks → (ρ : ℕ → KTerm) → Values (kind_algebra kind) g ρ → ¬ Stacked (kind_algebra kind) ρ E
-    atom-app-clash f v s ks a b = clash-turn (kind_algebra kind) g _ up st p going.on_kinds r q tie
+    pub atom_app_clash : (f v s : ℕ) (ks : List ℕ) → g r ≡ atom f v → g q ≡ app s ks → (ρ : ℕ → KTerm) → Values (kind_algebra kind) g ρ → ¬ Stacked (kind_algebra kind) ρ E
+    atom_app_clash f v s ks a b = clash_turn (kind_algebra kind) g _ up st p going.on_kinds r q tie
         (λ ρ val i. (kind_laws kind).app_atom s f v (map ρ ks) (sym (val.apps q s ks b) ∙ (sym i ∙ val.atoms r f v a)))
 
-    pub app-atom-clash : (f v s : ℕ) (ks : List ℕ) → g q ≡ atom f v → g r ≡ app s ks → (ρ : ℕ → KTerm) → Values (kind_algebra kind) g ρ → ¬ Stacked (kind_algebra kind) ρ E
-    app-atom-clash f v s ks a b = clash-turn (kind_algebra kind) g _ up st p going.on_kinds r q tie
+    pub app_atom_clash : (f v s : ℕ) (ks : List ℕ) → g q ≡ atom f v → g r ≡ app s ks → (ρ : ℕ → KTerm) → Values (kind_algebra kind) g ρ → ¬ Stacked (kind_algebra kind) ρ E
+    app_atom_clash f v s ks a b = clash_turn (kind_algebra kind) g _ up st p going.on_kinds r q tie
         (λ ρ val i. (kind_laws kind).app_atom s f v (map ρ ks) (sym (val.apps r s ks b) ∙ (i ∙ val.atoms q f v a)))
 
     -- two functions of two symbols or two arities
-    pub app-clash : (s t : ℕ) (ks ls : List ℕ) → g r ≡ app s ks → g q ≡ app t ls → ¬ ((s ≡ t) × (length ks ≡ length ls)) → (ρ : ℕ → KTerm) → Values (kind_algebra kind) g ρ → ¬ Stacked (kind_algebra kind) ρ E
-    app-clash s t ks ls a b apart = clash-turn (kind_algebra kind) g _ up st p going.on_kinds r q tie
+    pub app_clash : (s t : ℕ) (ks ls : List ℕ) → g r ≡ app s ks → g q ≡ app t ls → ¬ ((s ≡ t) × (length ks ≡ length ls)) → (ρ : ℕ → KTerm) → Values (kind_algebra kind) g ρ → ¬ Stacked (kind_algebra kind) ρ E
+    app_clash s t ks ls a b apart = clash_turn (kind_algebra kind) g _ up st p going.on_kinds r q tie
         (λ ρ val i. let m = sym (val.apps r s ks a) ∙ (i ∙ val.apps q t ls b) in
         apart (
           (kind_laws kind).app_symbol s t (map ρ ks) (map ρ ls) m,
@@ -140,66 +139,66 @@ module _ (kind : ℕ → ℕ → ℕ) (g : Graph) (E : List Pair) where
           at (no i) = subst (Live arena g) (sym (link.else k i)) (going.tied k a)
 
       -- a variable against any other root
-      pub variable-turn : g r ≡ free → Going kind g E flag up' st
-      variable-turn f = record {
+      pub variable_turn : g r ≡ free → Going kind g E flag up' st
+      variable_turn f = record {
         sound = free_sound g up up' r q going.sound link below f;
         tied = tied';
         bare = bare';
-        on_kinds = (free-turn (kind_algebra kind) g _ up st p going.on_kinds up' r q tie root link f);
-        on_terms = λ t. (free-turn term_algebra g _ up st p (going.on_terms t) up' r q tie root link f);
+        on_kinds = (free_turn (kind_algebra kind) g _ up st p going.on_kinds up' r q tie root link f);
+        on_terms = λ t. (free_turn term_algebra g _ up st p (going.on_terms t) up' r q tie root link f);
         dead = going.dead;
       }
 
       -- two functions of one symbol and arity
-      pub function-turn : (s : ℕ) (ks ls : List ℕ) → g r ≡ app s ks → g q ≡ app s ls → length ks ≡ length ls → Going kind g E flag up' (onto ks ls st)
-      function-turn s ks ls a b len = record {
+      pub function_turn : (s : ℕ) (ks ls : List ℕ) → g r ≡ app s ks → g q ≡ app s ls → length ks ≡ length ls → Going kind g E flag up' (onto ks ls st)
+      function_turn s ks ls a b len = record {
         sound = app_sound g up up' r q s ks ls going.sound link below a b;
         tied = tied';
         bare = bare';
-        on_kinds = app-turn (kind_algebra kind) g _ up st p going.on_kinds up' r q tie root link (kind_laws kind) s ks ls a b len;
-        on_terms = λ t. app-turn term_algebra g _ up st p (going.on_terms t) up' r q tie root link term_laws s ks ls a b len;
+        on_kinds = app_turn (kind_algebra kind) g _ up st p going.on_kinds up' r q tie root link (kind_laws kind) s ks ls a b len;
+        on_terms = λ t. app_turn term_algebra g _ up st p (going.on_terms t) up' r q tie root link term_laws s ks ls a b len;
         dead = going.dead;
       }
 
   -- the end
   module _ (cap : ℕ) (fw : Forward cap g) (live : AllLive cap g E) where
     -- no valuation of kinds: wrong
-    pub wrong-from : ((ρ : ℕ → KTerm) → Values (kind_algebra kind) g ρ → ¬ Stacked (kind_algebra kind) ρ E) → NoKinds kind cap g E
-    wrong-from never κ fits = never (value (kind_algebra kind) cap g κ) (value-values cap g fw (kind_algebra kind) κ) (fits-stacked cap g fw kind κ E fits)
+    pub wrong_from : ((ρ : ℕ → KTerm) → Values (kind_algebra kind) g ρ → ¬ Stacked (kind_algebra kind) ρ E) → NoKinds kind cap g E
+    wrong_from never κ fits = never (value (kind_algebra kind) cap g κ) (value_values cap g fw (kind_algebra kind) κ) (fits_stacked cap g fw kind κ E fits)
 
     module _ (flag : Bool) (up rank : ℕ → ℕ) (going : Going kind g E flag up []) (ordered : Ordered g up rank) where
       -- some kinds fit, whatever the flag
-      pub fits-from : (κ : ℕ → KTerm) × Fits kind cap g κ E
-      fits-from =
+      pub fits_from : (κ : ℕ → KTerm) × Fits kind cap g κ E
+      fits_from =
           let A = kind_algebra kind in
           let ρ = solution A (λ n. base 0) g up rank in
-          let val = solution-values A (λ n. base 0) g up rank going.sound ordered going.on_kinds.closed in
-          let sat = solution-sat A (λ n. base 0) g up rank going.sound ordered in
-          ((λ v. ρ (cap + v)), stacked-fits cap g fw kind (λ v. ρ (cap + v)) E (stacked-live cap g fw A ρ val E live ((going.on_kinds.same ρ val).0 sat)))
+          let val = solution_values A (λ n. base 0) g up rank going.sound ordered going.on_kinds.closed in
+          let sat = solution_sat A (λ n. base 0) g up rank going.sound ordered in
+          ((λ v. ρ (cap + v)), stacked_fits cap g fw kind (λ v. ρ (cap + v)) E (stacked_live cap g fw A ρ val E live ((going.on_kinds.same ρ val).0 sat)))
 
-      pub false-from : flag ≡ false → KindsOnly kind cap g E
-      false-from e = record {
-        fits = fits-from;
-        none = λ θ u. going.dead e (value term_algebra cap g θ) (value-values cap g fw term_algebra θ) (unifies-stacked cap g fw θ E u);
+      pub false_from : flag ≡ false → KindsOnly kind cap g E
+      false_from e = record {
+        fits = fits_from;
+        none = λ θ u. going.dead e (value term_algebra cap g θ) (value_values cap g fw term_algebra θ) (unifies_stacked cap g fw θ E u);
       }
 
-      pub solved-from : flag ≡ true → MostGeneral cap g E (answer cap g up rank)
-      solved-from e =
+      pub solved_from : flag ≡ true → MostGeneral cap g E (answer cap g up rank)
+      solved_from e =
           let A = term_algebra in
           let h : ℕ → Term = λ n. var (n - cap) in
           let ρ = solution A h g up rank in
           let S = going.on_terms e in
-          let val = solution-values A h g up rank going.sound ordered S.closed in
-          let sat = solution-sat A h g up rank going.sound ordered in
+          let val = solution_values A h g up rank going.sound ordered S.closed in
+          let sat = solution_sat A h g up rank going.sound ordered in
           record {
-            unifies = stacked-unifies cap g fw (λ v. ρ (cap + v)) E (stacked-live cap g fw A ρ val E live ((S.same ρ val).0 sat));
+            unifies = stacked_unifies cap g fw (λ v. ρ (cap + v)) E (stacked_live cap g fw A ρ val E live ((S.same ρ val).0 sat));
             general = λ θ u v.
                 let τ = value A cap g θ in
-                let tv = value-values cap g fw A θ in
-                let ts = (S.same τ tv).1 (unifies-stacked cap g fw θ E u) in
-                let i = solution-image A A h g up rank going.sound ordered (apply θ) (λ a w. refl) (λ s ts. ap (fun s) (applies_pack θ ts)) τ tv ts.linked
-                (λ r q. sym (value-free cap g fw A θ r q)) (cap + v) in
-                let w = value-free cap g fw A θ (cap + v) (fw.variables (cap + v) (omega arith)) in
+                let tv = value_values cap g fw A θ in
+                let ts = (S.same τ tv).1 (unifies_stacked cap g fw θ E u) in
+                let i = solution_image A A h g up rank going.sound ordered (apply θ) (λ a w. refl) (λ s ts. ap (fun s) (applies_pack θ ts)) τ tv ts.linked
+                (λ r q. sym (value_free cap g fw A θ r q)) (cap + v) in
+                let w = value_free cap g fw A θ (cap + v) (fw.variables (cap + v) (omega arith)) in
                 let n : cap + v - cap ≡ v = omega arith in
                 sym (i ∙ (w ∙ ap θ n));
           }

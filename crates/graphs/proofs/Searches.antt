@@ -1,18 +1,17 @@
-use Rattle.std.proofs.Common.{◌≡◌, ℕ, zero, suc, ◌+◌, ◌-◌, ◌*◌, ◌<◌, ◌≤◌, Bool, true, false, cond, eqb, ◌≢◌, ◌⊎◌, List, [], ◌∷◌, ◌++◌, map, length, get_or, take, drop, set, sym, refl, ap, ◌∙◌, subst, inl, inr, arith, eq-eqb, ne_eqb}
-use native.Mathlib.Decide.{dec_lt, ℕ_discrete}
+use Rattle.std.proofs.Common.{◌≡◌, ℕ, zero, suc, ◌+◌, ◌-◌, ◌<◌, ◌≤◌, ◌⊎◌, List, [], ◌∷◌, length, get_or, drop, set, sym, refl, ap, ◌∙◌, subst, inl, inr, arith, eq-eqb, ne_eqb}
+use native.Mathlib.Decide.{ℕ_discrete}
 use Rattle.std.proofs.lemmas.List.{get_or-set_same, get_or-set_other, length-set, drop_more}
 use Rattle.terms.specs.declared.Cell.{Cell}
-use Rattle.graphs.specs.Terms.{KTerm, ksize}
-use Rattle.graphs.specs.Graph.{Shape, free, atom, app, Graph, Each, Values, Linked, find}
-use Rattle.graphs.specs.Links.{up_of, counted}
-use Rattle.graphs.specs.Meaning.{kind_algebra, number_of, number, Before, Visited, Inside}
+use Rattle.graphs.specs.Terms.{ksize}
+use Rattle.graphs.specs.Graph.{Shape, free, atom, app, Graph, Each, Linked, find}
+use Rattle.graphs.specs.Links.{up_of}
+use Rattle.graphs.specs.Meaning.{number_of, number, Before, Inside}
 use Rattle.graphs.specs.Cells.{blank, node_at, graph, arguments, after}
 use Rattle.graphs.specs.Search.{order_of, zeros, Progress, Searching, Cyclic, Finished, Amid, Enclosed}
-use Rattle.graphs.proofs.CellLaws.{graph-app, arguments_length, after_le}
-use Rattle.graphs.proofs.Cycle.{visited-open, visited-close, inside-argument}
-use Rattle.graphs.proofs.Walks.{each_map}
+use Rattle.graphs.proofs.CellLaws.{graph_app, arguments_length, after_le}
+use Rattle.graphs.proofs.Cycle.{visited_open, visited_close, inside_argument}
 use Rattle.graphs.proofs.CellLaws.{app_inside}
-use Rattle.graphs.proofs.Arena.{app-tag}
+use Rattle.graphs.proofs.Arena.{app_tag}
 
 order_linked : (o : List ℕ) (r x : ℕ) → r < length o → Linked (order_of o) r x (order_of (set o r x))
 order_linked o r x h = record { here = get_or-set_same o r x 0 h; else = λ n i. get_or-set_other o r n x 0 i }
@@ -106,15 +105,15 @@ module _ (cs : List Cell) (l o : List ℕ) (clock r : ℕ) (state : Searching cs
   room : r < length o
   room = let w = state.wide in omega arith
 
-  open-state : Searching cs l o₁ clock
-  open-state =
+  open_state : Searching cs l o₁ clock
+  open_state =
       let z = zeros_open o r 1 room unvisited (omega arith) in let w = state.wide in let k = length-set o r 1 in let c = state.count in let e = state.early in
       record {
         small = state.small;
         down = state.down;
         named = state.named;
         wide = omega arith;
-        visited = visited-open (graph cs) (up_of l) (order_of o) (order_of o₁) r (get_or cs r blank).value 1 ks (graph-app cs r place symbol) (omega arith) (order_linked o r 1 room) refl state.visited;
+        visited = visited_open (graph cs) (up_of l) (order_of o) (order_of o₁) r (get_or cs r blank).value 1 ks (graph_app cs r place symbol) (omega arith) (order_linked o r 1 room) refl state.visited;
         early = e;
         later = λ m. go m (ℕ_discrete m r);
         count = omega arith;
@@ -124,12 +123,12 @@ module _ (cs : List Cell) (l o : List ℕ) (clock r : ℕ) (state : Searching cs
       go m (yes i) = let h = get_or-set_same o r 1 0 room in let e = state.early in rw (i, h) (omega arith)
       go m (no i) = rw (get_or-set_other o r m 1 0 i) (state.later m)
 
-  pub amid-start : Amid cs l o₁ (clock + zeros o₁) r (get_or cs r blank).arity o₁ clock (r + 1) 0
-  amid-start =
+  pub amid_start : Amid cs l o₁ (clock + zeros o₁) r (get_or cs r blank).arity o₁ clock (r + 1) 0
+  amid_start =
       let s = state.small in
       let z : (get_or cs r blank).arity - 0 ≡ (get_or cs r blank).arity = omega arith in
       record {
-        state = open-state;
+        state = open_state;
         progress = λ m. inl refl;
         past = λ j h. absurd (omega arith);
         rest = ap (λ m. arguments cs m (r + 1)) z;
@@ -151,10 +150,10 @@ module _ (cs : List Cell) (l o : List ℕ) (clock r : ℕ) (state : Searching cs
         ap (λ m. arguments cs m at) (sym z) ∙ (amid.rest ∙ drop_more ks i 0 (omega arith)) in
         (cc, cc)
 
-    kid-inside : Enclosed cs l ot kid
-    kid-inside kind ρ val lk x e =
+    kid_inside : Enclosed cs l ot kid
+    kid_inside kind ρ val lk x e =
         let len = arguments_length cs (get_or cs r blank).arity (r + 1) in
-        let all = inside-argument kind (graph cs) (up_of l) (order_of o) (order_of o₁) r (get_or cs r blank).value ks (graph-app cs r place symbol) (order_linked o r 1 room) (inside kind) in
+        let all = inside_argument kind (graph cs) (up_of l) (order_of o) (order_of o₁) r (get_or cs r blank).value ks (graph_app cs r place symbol) (order_linked o r 1 room) (inside kind) in
         let one = each_at (λ k. Inside kind (graph cs) (up_of l) (order_of o₁) (find (up_of l) k)) ks i all (omega arith) in
         let was : get_or o₁ x 0 ≡ 1 = go (amid.progress x) in
         subst (λ k. ksize (ρ (find (up_of l) k)) < ksize (ρ x)) (sym next_both.0) (one ρ val lk x was)
@@ -163,20 +162,20 @@ module _ (cs : List Cell) (l o : List ℕ) (clock r : ℕ) (state : Searching cs
         go (inl f) = sym f ∙ e
         go (inr w) = absurd (let a = w.1 in omega arith)
 
-    pub kid-open : number (graph cs) (order_of ot) kid ≡ 1 → Cyclic cs l
-    kid-open e kind ρ val lk =
+    pub kid_open : number (graph cs) (order_of ot) kid ≡ 1 → Cyclic cs l
+    kid_open e kind ρ val lk =
         let w = number_app (graph cs) (order_of ot) kid (omega arith) in
-        let z = kid-inside kind ρ val lk kid (w.1.1.1 ∙ e) in omega arith
+        let z = kid_inside kind ρ val lk kid (w.1.1.1 ∙ e) in omega arith
 
-    pub kid-new : number (graph cs) (order_of ot) kid ≡ 0
+    pub kid_new : number (graph cs) (order_of ot) kid ≡ 0
         → (get_or ot kid 0 ≡ 0) × ((kid < length cs) × (((get_or cs kid blank).tag ≡ 2) × Enclosed cs l ot kid))
-    kid-new e =
+    kid_new e =
         let w = number_app (graph cs) (order_of ot) kid (omega arith) in
-        (w.1.1.1 ∙ e, (app_inside cs kid w.0 w.1.0 w.1.1.0, (app-tag cs state.small kid w.0 w.1.0 w.1.1.0, kid-inside)))
+        (w.1.1.1 ∙ e, (app_inside cs kid w.0 w.1.0 w.1.1.0, (app_tag cs state.small kid w.0 w.1.0 w.1.1.0, kid_inside)))
 
-    amid-more : (ot' : List ℕ) (time' : ℕ) → Searching cs l ot' time' → Progress ot ot' → 2 ≤ number (graph cs) (order_of ot') kid → zeros ot' ≤ zeros ot → time' + zeros ot' ≤ time + zeros ot
+    amid_more : (ot' : List ℕ) (time' : ℕ) → Searching cs l ot' time' → Progress ot ot' → 2 ≤ number (graph cs) (order_of ot') kid → zeros ot' ≤ zeros ot → time' + zeros ot' ≤ time + zeros ot
         → Amid cs l o₁ (clock + zeros o₁) r (get_or cs r blank).arity ot' time' (after cs at) (i + 1)
-    amid-more ot' time' st pr dn fw wi =
+    amid_more ot' time' st pr dn fw wi =
         let f = amid.fewer in let w = amid.within in
         record {
           state = st;
@@ -192,40 +191,40 @@ module _ (cs : List Cell) (l o : List ℕ) (clock r : ℕ) (state : Searching cs
         go j k (yes e) = subst (λ m. 2 ≤ number (graph cs) (order_of ot') (find (up_of l) m)) (next_both.0 ∙ ap (λ m. get_or ks m 0) (sym e)) dn
         go j k (no e) = progress_number (graph cs) ot ot' (find (up_of l) (get_or ks j 0)) pr (amid.past j (omega arith))
 
-    pub amid-done : 2 ≤ number (graph cs) (order_of ot) kid → Amid cs l o₁ (clock + zeros o₁) r (get_or cs r blank).arity ot time (after cs at) (i + 1)
-    amid-done d = amid-more ot time amid.state (λ m. inl refl) d (omega arith) (omega arith)
+    pub amid_done : 2 ≤ number (graph cs) (order_of ot) kid → Amid cs l o₁ (clock + zeros o₁) r (get_or cs r blank).arity ot time (after cs at) (i + 1)
+    amid_done d = amid_more ot time amid.state (λ m. inl refl) d (omega arith) (omega arith)
 
-    pub amid-visited : (ot' : List ℕ) (t : ℕ) → Finished cs l ot time kid ot' t → Amid cs l o₁ (clock + zeros o₁) r (get_or cs r blank).arity ot' t (after cs at) (i + 1)
-    amid-visited ot' t f =
+    pub amid_visited : (ot' : List ℕ) (t : ℕ) → Finished cs l ot time kid ot' t → Amid cs l o₁ (clock + zeros o₁) r (get_or cs r blank).arity ot' t (after cs at) (i + 1)
+    amid_visited ot' t f =
         let a = f.fewer in let b = f.within in let d = f.done in
-        amid-more ot' t f.state f.progress (number_done (graph cs) (order_of ot') kid (omega arith)) (omega arith) (omega arith)
+        amid_more ot' t f.state f.progress (number_done (graph cs) (order_of ot') kid (omega arith)) (omega arith) (omega arith)
 
     -- the same of the root that was found
     module _ (k : ℕ) (ke : k ≡ kid) where
-      pub kid-open' : number (graph cs) (order_of ot) k ≡ 1 → Cyclic cs l
-      kid-open' e = kid-open (sym (ap (number (graph cs) (order_of ot)) ke) ∙ e)
+      pub kid_open' : number (graph cs) (order_of ot) k ≡ 1 → Cyclic cs l
+      kid_open' e = kid_open (sym (ap (number (graph cs) (order_of ot)) ke) ∙ e)
 
-      pub kid-new' : number (graph cs) (order_of ot) k ≡ 0
+      pub kid_new' : number (graph cs) (order_of ot) k ≡ 0
           → (get_or ot k 0 ≡ 0) × ((k < length cs) × (((get_or cs k blank).tag ≡ 2) × Enclosed cs l ot k))
-      kid-new' e = subst (λ k. (get_or ot k 0 ≡ 0) × ((k < length cs) × (((get_or cs k blank).tag ≡ 2) × Enclosed cs l ot k))) (sym ke)
-          (kid-new (sym (ap (number (graph cs) (order_of ot)) ke) ∙ e))
+      kid_new' e = subst (λ k. (get_or ot k 0 ≡ 0) × ((k < length cs) × (((get_or cs k blank).tag ≡ 2) × Enclosed cs l ot k))) (sym ke)
+          (kid_new (sym (ap (number (graph cs) (order_of ot)) ke) ∙ e))
 
       module _ (ot' : List ℕ) (t at' : ℕ) (ae : at' ≡ after cs at) where
-        pub amid-done' : ot' ≡ ot → t ≡ time → 2 ≤ number (graph cs) (order_of ot) k → Amid cs l o₁ (clock + zeros o₁) r (get_or cs r blank).arity ot' t at' (i + 1)
-        amid-done' oe te d = subst (λ a. Amid cs l o₁ (clock + zeros o₁) r (get_or cs r blank).arity ot' t a (i + 1)) (sym ae)
+        pub amid_done' : ot' ≡ ot → t ≡ time → 2 ≤ number (graph cs) (order_of ot) k → Amid cs l o₁ (clock + zeros o₁) r (get_or cs r blank).arity ot' t at' (i + 1)
+        amid_done' oe te d = subst (λ a. Amid cs l o₁ (clock + zeros o₁) r (get_or cs r blank).arity ot' t a (i + 1)) (sym ae)
             (subst (λ w. Amid cs l o₁ (clock + zeros o₁) r (get_or cs r blank).arity w t (after cs at) (i + 1)) (sym oe)
             (subst (λ w. Amid cs l o₁ (clock + zeros o₁) r (get_or cs r blank).arity ot w (after cs at) (i + 1)) (sym te)
-            (amid-done (subst (λ k. 2 ≤ number (graph cs) (order_of ot) k) ke d))))
+            (amid_done (subst (λ k. 2 ≤ number (graph cs) (order_of ot) k) ke d))))
 
-        pub amid-visited' : (ot'' : List ℕ) (t'' : ℕ) → ot' ≡ ot'' → t ≡ t'' → Finished cs l ot time k ot'' t'' → Amid cs l o₁ (clock + zeros o₁) r (get_or cs r blank).arity ot' t at' (i + 1)
-        amid-visited' ot'' t'' oe te f = subst (λ a. Amid cs l o₁ (clock + zeros o₁) r (get_or cs r blank).arity ot' t a (i + 1)) (sym ae)
+        pub amid_visited' : (ot'' : List ℕ) (t'' : ℕ) → ot' ≡ ot'' → t ≡ t'' → Finished cs l ot time k ot'' t'' → Amid cs l o₁ (clock + zeros o₁) r (get_or cs r blank).arity ot' t at' (i + 1)
+        amid_visited' ot'' t'' oe te f = subst (λ a. Amid cs l o₁ (clock + zeros o₁) r (get_or cs r blank).arity ot' t a (i + 1)) (sym ae)
             (subst (λ w. Amid cs l o₁ (clock + zeros o₁) r (get_or cs r blank).arity w t (after cs at) (i + 1)) (sym oe)
             (subst (λ w. Amid cs l o₁ (clock + zeros o₁) r (get_or cs r blank).arity ot'' w (after cs at) (i + 1)) (sym te)
-            (amid-visited ot'' t'' (subst (λ k. Finished cs l ot time k ot'' t'') ke f))))
+            (amid_visited ot'' t'' (subst (λ k. Finished cs l ot time k ot'' t'') ke f))))
 
   -- r is finished
-  pub amid-end : (ot : List ℕ) (time at : ℕ) → Amid cs l o₁ (clock + zeros o₁) r (get_or cs r blank).arity ot time at (get_or cs r blank).arity → Finished cs l o clock r (set ot r time) (time + 1)
-  amid-end ot time at amid =
+  pub amid_end : (ot : List ℕ) (time at : ℕ) → Amid cs l o₁ (clock + zeros o₁) r (get_or cs r blank).arity ot time at (get_or cs r blank).arity → Finished cs l o clock r (set ot r time) (time + 1)
+  amid_end ot time at amid =
       let z = zeros_open o r 1 room unvisited (omega arith) in
       let s = amid.state in let wide = s.wide in
       let rr : r < length ot = omega arith in
@@ -243,7 +242,7 @@ module _ (cs : List Cell) (l o : List ℕ) (clock r : ℕ) (state : Searching cs
           down = s.down;
           named = s.named;
           wide = omega arith;
-          visited = visited-close (graph cs) (up_of l) (order_of ot) (order_of (set ot r time)) r (get_or cs r blank).value time ks (graph-app cs r place symbol) (omega arith) (order_linked ot r time rr)
+          visited = visited_close (graph cs) (up_of l) (order_of ot) (order_of (set ot r time)) r (get_or cs r blank).value time ks (graph_app cs r place symbol) (omega arith) (order_linked ot r time rr)
               (at_each (Before (graph cs) (up_of l) (order_of ot) time) ks
               (λ j h. (amid.past j (omega arith), number_later (graph cs) (order_of ot) (find (up_of l) (get_or ks j 0)) time early (s.later (find (up_of l) (get_or ks j 0))))))
               s.visited;
@@ -270,5 +269,5 @@ module _ (cs : List Cell) (l o : List ℕ) (clock r : ℕ) (state : Searching cs
       prog m e rr (no i) = subst (λ x. (x ≡ get_or o m 0) ⊎ ((get_or o m 0 ≡ 0) × (3 ≤ x))) (sym (get_or-set_other ot r m time 0 i))
           (subst (λ y. (get_or ot m 0 ≡ y) ⊎ ((y ≡ 0) × (3 ≤ get_or ot m 0))) (get_or-set_other o r m 1 0 i) (amid.progress m))
 
-  pub amid-end' : (ot : List ℕ) (time at i : ℕ) → i ≡ (get_or cs r blank).arity → Amid cs l o₁ (clock + zeros o₁) r (get_or cs r blank).arity ot time at i → Finished cs l o clock r (set ot r time) (time + 1)
-  amid-end' ot time at i e a = amid-end ot time at (subst (λ j. Amid cs l o₁ (clock + zeros o₁) r (get_or cs r blank).arity ot time at j) e a)
+  pub amid_end' : (ot : List ℕ) (time at i : ℕ) → i ≡ (get_or cs r blank).arity → Amid cs l o₁ (clock + zeros o₁) r (get_or cs r blank).arity ot time at i → Finished cs l o clock r (set ot r time) (time + 1)
+  amid_end' ot time at i e a = amid_end ot time at (subst (λ j. Amid cs l o₁ (clock + zeros o₁) r (get_or cs r blank).arity ot time at j) e a)

@@ -1,22 +1,22 @@
-use Rattle.std.proofs.Common.{◌≡◌, ℕ, zero, suc, ◌+◌, ◌-◌, ◌*◌, ◌<◌, ◌≤◌, Bool, true, false, cond, eqb, ltb, leb, ◌≢◌, ◌⊎◌, List, [], ◌∷◌, ◌++◌, map, length, get_or, take, drop, sym, refl, ap, ◌∙◌, subst, inl, inr, arith}
+use Rattle.std.proofs.Common.{◌≡◌, ℕ, zero, suc, ◌+◌, ◌-◌, ◌<◌, ◌≤◌, true, cond, eqb, ltb, leb, ◌≢◌, List, [], ◌∷◌, ◌++◌, length, get_or, take, drop, sym, refl, ap, ◌∙◌, subst, arith}
 use mathlib.Core.Path.{fun_ext}
-use native.Mathlib.Decide.{dec_lt, dec_le, ℕ_discrete}
+use native.Mathlib.Decide.{dec_lt, ℕ_discrete}
 use Rattle.std.proofs.lemmas.Bool.{and_parts, and_from, leb-true, ltb-true, eq-eqb, ne_eqb}
-use Rattle.std.proofs.lemmas.List.{get_or_past, get_or-append-add, drop_at, get_or_append_left, drop-append-le, length-drop, length-append, drop-drop, get_or-drop}
+use Rattle.std.proofs.lemmas.List.{get_or_past, get_or-append-add, drop_at, get_or_append_left, drop-append-le, length-drop, length-append, drop-drop}
 use Rattle.terms.specs.declared.Cell.{Cell}
 use Rattle.graphs.specs.declared.Pair.{Pair}
-use Rattle.graphs.specs.Graph.{Shape, free, atom, app, Graph, Each, find, Ordered, Acyclic}
+use Rattle.graphs.specs.Graph.{Shape, free, atom, app, Each, find, Ordered, Acyclic}
 use Rattle.graphs.specs.Links.{up_of, weight, roots}
-use Rattle.graphs.specs.Meaning.{arena, Grows, Going, same_node, Live, AllLive, Forward}
+use Rattle.graphs.specs.Meaning.{arena, Grows, Going, same_node, Live, AllLive}
 use Rattle.graphs.specs.Cells.{blank, span, after, node_at, arguments, graph, arity_sh, owes, fits, all_fit}
 use Rattle.graphs.specs.Whole.{left, Whole}
-use Rattle.graphs.proofs.CellLaws.{graph-app, graph-atom, graph-free, arguments_length}
-use Rattle.graphs.proofs.Arena.{app-tag, app-arguments, cells-forward}
+use Rattle.graphs.proofs.CellLaws.{graph_app, graph_atom, graph_free, arguments_length}
+use Rattle.graphs.proofs.Arena.{app_arguments, cells_forward}
 use Rattle.graphs.proofs.CellLaws.{app_inside}
 use Rattle.graphs.proofs.Lists.{weight_bound}
 use Rattle.graphs.proofs.Instances.{forward_ordered}
 use Rattle.graphs.proofs.Loop.{going_start, walk_alive}
-use Rattle.graphs.proofs.Walks.{each_map, walk-fixed}
+use Rattle.graphs.proofs.Walks.{each_map, walk_fixed}
 use Rattle.graphs.proofs.Cycle.{each_both}
 
 -- fewer terms leave no more
@@ -55,9 +55,9 @@ left_inside cs q n e = go (drop q cs) refl (dec_lt q (length cs))
     go (x ∷ xs) i (no h) = absurd (let l = length-drop q cs in let m = ap length i in omega arith)
 
 module _ (cs more : List Cell) where
-  arguments-grow : (n q : ℕ) → left (drop q cs) n ≡ 0 → arguments (cs ++ more) n q ≡ arguments cs n q
-  arguments-grow zero q e = refl
-  arguments-grow (suc n) q e =
+  arguments_grow : (n q : ℕ) → left (drop q cs) n ≡ 0 → arguments (cs ++ more) n q ≡ arguments cs n q
+  arguments_grow zero q e = refl
+  arguments_grow (suc n) q e =
       let h = left_inside cs q n e in
       let o : 1 + n ≡ suc n = omega arith in
       let e' : left (drop q cs) (1 + n) ≡ 0 = ap (left (drop q cs)) o ∙ e in
@@ -66,12 +66,12 @@ module _ (cs more : List Cell) where
       let s : span (drop q (cs ++ more)) 1 ≡ span (drop q cs) 1 = ap (λ m. span m 1) d ∙ span_append (drop q cs) more 1 (left_less (drop q cs) 1 n e') in
       let a : after (cs ++ more) q ≡ after cs q = ap (λ m. q + m) s in
       let f : left (drop (after cs q) cs) n ≡ 0 = ap (λ m. left m n) (sym (drop-drop (span (drop q cs) 1) q cs)) ∙ left_after (drop q cs) 1 n e' in
-      let i = arguments-grow n (after cs q) f in
+      let i = arguments_grow n (after cs q) f in
       rw (c, a) (ap (λ m. node_at cs q ∷ m) i)
 
   -- cells are added at the end
-  pub cells-grow : (up : ℕ → ℕ) → length (cs ++ more) ≤ 1568 → Whole cs → ((n : ℕ) → length cs ≤ n → n < length (cs ++ more) → up n ≡ n) → Grows (graph cs) (graph (cs ++ more)) up
-  cells-grow up small whole fresh = record {
+  pub cells_grow : (up : ℕ → ℕ) → length (cs ++ more) ≤ 1568 → Whole cs → ((n : ℕ) → length cs ≤ n → n < length (cs ++ more) → up n ≡ n) → Grows (graph cs) (graph (cs ++ more)) up
+  cells_grow up small whole fresh = record {
     kept = λ n solid. at n solid (dec_lt n (length cs));
     fresh = λ n e solid. new n e solid (dec_lt n (length cs)) (dec_lt n (length (cs ++ more)));
   }
@@ -80,25 +80,25 @@ module _ (cs more : List Cell) where
       same n h (yes t) =
           let l = length-append cs more in
           let c = get_or_append_left cs more blank n h in
-          let g = graph-app (cs ++ more) n (omega arith) (ap (λ x. x.tag) c ∙ t) in
+          let g = graph_app (cs ++ more) n (omega arith) (ap (λ x. x.tag) c ∙ t) in
           let i : (get_or (cs ++ more) n blank).arity ≡ (get_or cs n blank).arity = ap (λ x. x.arity) c in
           let j = ap (λ x. x.value) c in
           g ∙ (ap (λ v. app v (arguments (cs ++ more) (get_or (cs ++ more) n blank).arity (n + 1))) j
           ∙ (ap (λ a. app (get_or cs n blank).value (arguments (cs ++ more) a (n + 1))) i
-          ∙ (ap (app (get_or cs n blank).value) (arguments-grow (get_or cs n blank).arity (n + 1) (whole n h t)) ∙ sym (graph-app cs n h t))))
+          ∙ (ap (app (get_or cs n blank).value) (arguments_grow (get_or cs n blank).arity (n + 1) (whole n h t)) ∙ sym (graph_app cs n h t))))
       same n h (no t) =
           let l = length-append cs more in
           let c = get_or_append_left cs more blank n h in
-          let g = graph-atom (cs ++ more) n (omega arith) (λ e. t (sym (ap (λ x. x.tag) c) ∙ e)) in
-          g ∙ (ap (λ x. atom x.form x.value) c ∙ sym (graph-atom cs n h t))
+          let g = graph_atom (cs ++ more) n (omega arith) (λ e. t (sym (ap (λ x. x.tag) c) ∙ e)) in
+          g ∙ (ap (λ x. atom x.form x.value) c ∙ sym (graph_atom cs n h t))
 
       at : (n : ℕ) → graph cs n ≢ free → Dec (n < length cs) → graph (cs ++ more) n ≡ graph cs n
       at n solid (yes h) = same n h (ℕ_discrete (get_or cs n blank).tag 2)
-      at n solid (no h) = absurd (solid (graph-free cs n (omega arith)))
+      at n solid (no h) = absurd (solid (graph_free cs n (omega arith)))
 
       new : (n : ℕ) → graph cs n ≡ free → graph (cs ++ more) n ≢ free → Dec (n < length cs) → Dec (n < length (cs ++ more)) → up n ≡ n
       new n e solid (no h) (yes k) = fresh n (omega arith) k
-      new n e solid (no h) (no k) = absurd (solid (graph-free (cs ++ more) n (omega arith)))
+      new n e solid (no h) (no k) = absurd (solid (graph_free (cs ++ more) n (omega arith)))
       new n e solid (yes h) k = absurd (solid (same n h (ℕ_discrete (get_or cs n blank).tag 2) ∙ e))
 
 -- no cell stands at a free place
@@ -107,19 +107,19 @@ free_past cs n e = go (dec_lt n (length cs)) (ℕ_discrete (get_or cs n blank).t
   where
     go : Dec (n < length cs) → Dec ((get_or cs n blank).tag ≡ 2) → length cs ≤ n
     go (no h) d = omega arith
-    go (yes h) (yes t) = let g = sym (graph-app cs n h t) ∙ e in let z : ◌≡◌ {A = ℕ} 0 1 = cc in absurd (omega arith)
-    go (yes h) (no t) = let g = sym (graph-atom cs n h t) ∙ e in let z : ◌≡◌ {A = ℕ} 0 1 = cc in absurd (omega arith)
+    go (yes h) (yes t) = let g = sym (graph_app cs n h t) ∙ e in let z : ◌≡◌ {A = ℕ} 0 1 = cc in absurd (omega arith)
+    go (yes h) (no t) = let g = sym (graph_atom cs n h t) ∙ e in let z : ◌≡◌ {A = ℕ} 0 1 = cc in absurd (omega arith)
 
 -- places without a cell are roots
 pub bare_fresh : (cs more : List Cell) (up : ℕ → ℕ) → length (cs ++ more) ≤ 1568 → ((k : ℕ) → graph cs k ≡ free → k < arena → up k ≡ k) → (n : ℕ) → length cs ≤ n → n < length (cs ++ more) → up n ≡ n
-bare_fresh cs more up small bare n h k = bare n (graph-free cs n h) (omega arith)
+bare_fresh cs more up small bare n h k = bare n (graph_free cs n h) (omega arith)
 
 pub live_grow : (cs more : List Cell) (E : List Pair) → AllLive arena (graph cs) E → AllLive arena (graph (cs ++ more)) E
 live_grow cs more [] a = tt
 live_grow cs more (p ∷ E) a = (one p.left a.0, one p.right a.1, live_grow cs more E a.2)
   where
     one : (n : ℕ) → Live arena (graph cs) n → Live arena (graph (cs ++ more)) n
-    one n live e = live (graph-free cs n (let f = free_past (cs ++ more) n e in let l = length-append cs more in omega arith))
+    one n live e = live (graph_free cs n (let f = free_past (cs ++ more) n e in let l = length-append cs more in omega arith))
 
 left_append : (xs ys : List Cell) (need : ℕ) → left xs need ≡ 0 → left (xs ++ ys) need ≡ 0
 left_append [] ys need e = rw e (none ys)
@@ -177,21 +177,21 @@ module _ (cs more : List Cell) (up : ℕ → ℕ) (small : length (cs ++ more) �
   few = let l = length-append cs more in omega arith
 
   grows : Grows (graph cs) (graph (cs ++ more)) up
-  grows = cells-grow cs more up small whole fresh
+  grows = cells_grow cs more up small whole fresh
 
   top : ℕ
   top = (bounded rank (length cs)).0
 
-  rank-top : (n s : ℕ) (ks : List ℕ) → graph cs n ≡ app s ks → rank n ≤ top
+  rank_top : (n s : ℕ) (ks : List ℕ) → graph cs n ≡ app s ks → rank n ≤ top
   unfolding top
-  rank-top n s ks e = (bounded rank (length cs)).1 n (app_inside cs n s ks e)
+  rank_top n s ks e = (bounded rank (length cs)).1 n (app_inside cs n s ks e)
 
   abbrev rank' : ℕ → ℕ
   rank' n = above (graph cs n) (1 + rank n) (later (graph (cs ++ more) n) (top + 2 + (arena - n)))
 
   -- the root of a node that was live is an old function, or none
-  old-root : (k : ℕ) → Live arena (graph cs) k → (b : ℕ) → ((s : ℕ) (ks : List ℕ) → graph cs (find up k) ≡ app s ks → 1 + rank (find up k) < b) → 0 < b → rank' (find up k) < b
-  old-root k live b h z = go (graph cs (find up k)) refl (graph (cs ++ more) (find up k)) refl
+  old_root : (k : ℕ) → Live arena (graph cs) k → (b : ℕ) → ((s : ℕ) (ks : List ℕ) → graph cs (find up k) ≡ app s ks → 1 + rank (find up k) < b) → 0 < b → rank' (find up k) < b
+  old_root k live b h z = go (graph cs (find up k)) refl (graph (cs ++ more) (find up k)) refl
     where
       m : ℕ
       m = find up k
@@ -204,11 +204,11 @@ module _ (cs more : List Cell) (up : ℕ → ℕ) (small : length (cs ++ more) �
       go free e (atom f v) e' = rw (e, e') z
       go free e (app s ks) e' =
           let a = walk_alive (graph cs) up tied k k live e in
-          let i = graph-free (cs ++ more) (find up k) (omega arith) in
+          let i = graph_free (cs ++ more) (find up k) (omega arith) in
           let j : app s ks ≡ free = sym e' ∙ i in let o : ◌≡◌ {A = ℕ} 0 1 = cc in absurd (omega arith)
 
-  new-root : (n k : ℕ) → length cs ≤ n → n < length (cs ++ more) → n < k → Live arena (graph (cs ++ more)) k → rank' (find up k) < top + 2 + (arena - n)
-  new-root n k old new after live = go (dec_lt k (length (cs ++ more)))
+  new_root : (n k : ℕ) → length cs ≤ n → n < length (cs ++ more) → n < k → Live arena (graph (cs ++ more)) k → rank' (find up k) < top + 2 + (arena - n)
+  new_root n k old new after live = go (dec_lt k (length (cs ++ more)))
     where
       shape : (sh : Shape) → (x : ℕ) → x < top + 2 + (arena - n) → later sh x < top + 2 + (arena - n)
       shape free x h = omega arith
@@ -217,23 +217,23 @@ module _ (cs more : List Cell) (up : ℕ → ℕ) (small : length (cs ++ more) �
 
       go : Dec (k < length (cs ++ more)) → rank' (find up k) < top + 2 + (arena - n)
       go (yes h) =
-          let r = walk-fixed up k k (fresh k (omega arith) h) in
-          let f = graph-free cs k (omega arith) in
+          let r = walk_fixed up k k (fresh k (omega arith) h) in
+          let f = graph_free cs k (omega arith) in
           rw (r, f) (shape (graph (cs ++ more) k) (top + 2 + (arena - k)) (omega arith))
       go (no h) =
-          let a = live (graph-free (cs ++ more) k (omega arith)) in
-          old-root k (λ _. a) (top + 2 + (arena - n)) (λ s ks e. let t = rank-top (find up k) s ks e in omega arith) (omega arith)
+          let a = live (graph_free (cs ++ more) k (omega arith)) in
+          old_root k (λ _. a) (top + 2 + (arena - n)) (λ s ks e. let t = rank_top (find up k) s ks e in omega arith) (omega arith)
 
   -- what contained nothing of itself still does not
-  pub acyclic-grow : Acyclic (graph (cs ++ more)) up
-  acyclic-grow = (rank', λ r s ks e q. go r s ks e q (graph cs r) refl)
+  pub acyclic_grow : Acyclic (graph (cs ++ more)) up
+  acyclic_grow = (rank', λ r s ks e q. go r s ks e q (graph cs r) refl)
     where
       go : (r s : ℕ) (ks : List ℕ) → up r ≡ r → graph (cs ++ more) r ≡ app s ks → (sh : Shape) → graph cs r ≡ sh → Each (λ k. rank' (find up k) < rank' r) ks
       go r s ks e q free z =
           let i = app_inside (cs ++ more) r s ks q in
           let old = free_past cs r z in
           let here : rank' r ≡ top + 2 + (arena - r) = rw (z, q) in
-          each_map (λ k b. let n = new-root r k old i b.0 b.1 in omega arith) ks ((cells-forward (cs ++ more) small).arguments r s ks q)
+          each_map (λ k b. let n = new_root r k old i b.0 b.1 in omega arith) ks ((cells_forward (cs ++ more) small).arguments r s ks q)
       go r s ks e q (atom f v) z = absurd (
           let i = grows.kept r (λ z'. let i : atom f v ≡ free = sym z ∙ z' in let o : ◌≡◌ {A = ℕ} 0 1 = cc in omega arith) in
           let j : atom f v ≡ app s ks = sym z ∙ (sym i ∙ q) in let o : ◌≡◌ {A = ℕ} 0 1 = cc in omega arith)
@@ -242,8 +242,8 @@ module _ (cs more : List Cell) (up : ℕ → ℕ) (small : length (cs ++ more) �
           let j : app t ls ≡ app s ks = sym z ∙ (sym i ∙ q) in let l : ks ≡ ls = cc in
           let here : rank' r ≡ 1 + rank r = rw z in
           subst (Each (λ k. rank' (find up k) < rank' r)) (sym l)
-          (each_both (λ k a b. let h = old-root k a.1 (1 + rank r) (λ _ _ _. omega arith) (omega arith) in omega arith) ls
-          ((cells-forward cs few).arguments r t ls z) (ordered r t ls e z))
+          (each_both (λ k a b. let h = old_root k a.1 (1 + rank r) (λ _ _ _. omega arith) (omega arith) in omega arith) ls
+          ((cells_forward cs few).arguments r t ls z) (ordered r t ls e z))
 
 -- the start
 roots_at : (i n k : ℕ) → get_or (roots i n) k (i + k) ≡ i + k
@@ -270,7 +270,7 @@ roots_down n k = let e : up_of (roots 0 n) k ≡ k = ap (λ (f : ℕ → ℕ). f
 
 -- with every node a root, nothing contains itself
 pub start_acyclic : (cs : List Cell) (n : ℕ) → length cs ≤ 1568 → Acyclic (graph cs) (up_of (roots 0 n))
-start_acyclic cs n small = subst (Acyclic (graph cs)) (sym (roots_up n)) ((λ k. arena - k), forward_ordered arena (graph cs) (cells-forward cs small))
+start_acyclic cs n small = subst (Acyclic (graph cs)) (sym (roots_up n)) ((λ k. arena - k), forward_ordered arena (graph cs) (cells_forward cs small))
 
 pub start_going : (kind : ℕ → ℕ → ℕ) (cs : List Cell) (n : ℕ) (E : List Pair) → Going kind (graph cs) E true (up_of (roots 0 n)) E
 start_going kind cs n E = subst (λ up. Going kind (graph cs) E true up E) (sym (roots_up n)) (going_start kind (graph cs) E)
@@ -318,8 +318,8 @@ owes_room cs l small fit = weight_bound (owes cs) 8 1568 owes-small owes-none 0 
         go (atom f v) e = let z : owes cs k ≡ 0 = ap arity_sh e in omega arith
         go (app t ks) e =
             let z : owes cs k ≡ length ks = ap arity_sh e in
-            let y = ap length (app-arguments cs small k t ks e) ∙ arguments_length cs (get_or cs k blank).arity (k + 1) in
+            let y = ap length (app_arguments cs small k t ks e) ∙ arguments_length cs (get_or cs k blank).arity (k + 1) in
             let h = fits_arity (get_or cs k blank) (all_fits cs k fit) in omega arith
 
     owes-none : (k : ℕ) → 1568 ≤ k → owes cs k ≡ 0
-    owes-none k h = ap arity_sh (graph-free cs k (omega arith))
+    owes-none k h = ap arity_sh (graph_free cs k (omega arith))

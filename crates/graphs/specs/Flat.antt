@@ -1,4 +1,4 @@
-use Rattle.std.specs.Prelude.{◌≡◌, ℕ, zero, suc, ◌+◌, ◌<◌, ◌≤◌, List, [], ◌∷◌, ◌++◌, length, drop}
+use Rattle.std.specs.Prelude.{◌≡◌, ℕ, suc, List, [], ◌∷◌, ◌++◌, drop}
 use Rattle.terms.specs.declared.Cell.{Cell}
 use Rattle.graphs.specs.Terms.{Term, Terms, var, con, fun, none, more}
 

@@ -1,4 +1,4 @@
-use Rattle.std.specs.Prelude.{◌≡◌, ℕ, zero, suc, ◌+◌, ◌<◌, ◌≤◌, Bool, true, false, ◌≢◌, ◌⊎◌, ◌↔◌, List, [], ◌∷◌, ◌++◌, map, length}
+use Rattle.std.specs.Prelude.{◌≡◌, ℕ, zero, suc, ◌<◌, ◌≤◌, ◌≢◌, ◌⊎◌, ◌↔◌, List, [], ◌∷◌, map}
 pub use Rattle.graphs.specs.declared.Pair.{Pair}
 
 -- What stands at a node: nothing (a variable, or no cell), a constant (form, value), or a symbol and its argument nodes.
@@ -43,11 +43,11 @@ abbrev pub find : (ℕ → ℕ) → ℕ → ℕ
 find up n = walk up n n
 
 module _ (A : Algebra) where
-  open A use {T, atomT, app_t}
+  open A use {T, atom_t, app_t}
 
   -- the constants have their own values
   abbrev pub Atoms : Graph → (ℕ → T) → Type 0
-  Atoms g ρ = (n f v : ℕ) → g n ≡ atom f v → ρ n ≡ atomT f v
+  Atoms g ρ = (n f v : ℕ) → g n ≡ atom f v → ρ n ≡ atom_t f v
 
   -- each application has the value that its arguments give it
   abbrev pub Apps : Graph → (ℕ → T) → Type 0
@@ -93,11 +93,11 @@ Acyclic g up = (rank : ℕ → ℕ) × Ordered g up rank
 
 -- The solved form: each root's value by its shape, its arguments by their roots, a variable's by h; the rank bounds the depth.
 module _ (A : Algebra) where
-  open A use {T, atomT, app_t}
+  open A use {T, atom_t, app_t}
 
   abbrev pub put : Shape → T → (ℕ → T) → T
   put free d h = d
-  put (atom f v) d h = atomT f v
+  put (atom f v) d h = atom_t f v
   put (app s ks) d h = app_t s (map h ks)
 
   abbrev pub build : (ℕ → T) → Graph → (ℕ → ℕ) → ℕ → ℕ → T

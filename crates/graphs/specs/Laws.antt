@@ -1,5 +1,5 @@
 -- The laws by which callers go on from one equation to the next.
-use Rattle.std.specs.Prelude.{◌≡◌, ℕ, ◌+◌, ◌<◌, ◌≤◌, Bool, true, List, [], ◌∷◌, ◌++◌, length}
+use Rattle.std.specs.Prelude.{◌≡◌, ℕ, ◌≤◌, Bool, true, List, [], ◌++◌, length}
 use Rattle.terms.specs.declared.Cell.{Cell}
 use Rattle.graphs.specs.declared.Pair.{Pair}
 use Rattle.graphs.specs.Terms.{Term, Terms}

@@ -1,5 +1,5 @@
 -- Links kept in a list, and the trail that takes them back.
-use Rattle.std.specs.Prelude.{◌≡◌, ℕ, zero, suc, ◌+◌, ◌<◌, ◌≤◌, Bool, true, false, List, [], ◌∷◌, ◌++◌, length, take, drop, ◌==◌, slice_index_or, slice_set}
+use Rattle.std.specs.Prelude.{◌≡◌, ℕ, zero, suc, ◌+◌, ◌≤◌, Bool, true, false, List, [], ◌∷◌, length, take, drop, ◌==◌, slice_index_or, slice_set}
 
 -- the link of a node; a node past the end is a root
 abbrev pub up_of : List ℕ → ℕ → ℕ

@@ -1,6 +1,6 @@
-use Rattle.std.specs.Prelude.{◌≡◌, ℕ, zero, suc, ◌+◌, ◌-◌, ◌<◌, ◌≤◌, Bool, true, false, ◌≢◌, ◌⊎◌, ◌↔◌, List, [], ◌∷◌, ◌++◌, map, length}
-use Rattle.graphs.specs.Terms.{Term, Terms, var, con, fun, KTerm, KTerms, base, kfun, Subst, apply, kinds, pack, kpack, ksize}
-use Rattle.graphs.specs.Graph.{Shape, free, atom, app, Graph, Algebra, Each, Pair, find, Values, Stacked, Sound, Ordered, solution, Solves}
+use Rattle.std.specs.Prelude.{◌≡◌, ℕ, ◌+◌, ◌-◌, ◌<◌, ◌≤◌, Bool, true, false, ◌≢◌, List, [], ◌∷◌}
+use Rattle.graphs.specs.Terms.{Term, var, con, fun, KTerm, base, kfun, Subst, apply, kinds, pack, kpack, ksize}
+use Rattle.graphs.specs.Graph.{Shape, free, atom, app, Graph, Algebra, Each, Pair, find, Values, Stacked, Sound, solution, Solves}
 
 abbrev pub term_algebra : Algebra
 term_algebra = record { T = Term; atom_t = con; app_t = λ s ts. fun s (pack ts) }

@@ -1,10 +1,10 @@
-use Rattle.std.specs.Prelude.{◌≡◌, ℕ, zero, suc, ◌+◌, ◌-◌, ◌<◌, ◌≤◌, Bool, true, false, cond, ◌≢◌, ◌⊎◌, List, [], ◌∷◌, ◌++◌, map, length, drop, Some, None, Option, ◌==◌, slice_index}
+use Rattle.std.specs.Prelude.{◌≡◌, ℕ, ◌+◌, ◌-◌, ◌<◌, ◌≤◌, Bool, true, false, ◌≢◌, ◌⊎◌, List, [], ◌∷◌, length, drop, Some, None, Option, ◌==◌, slice_index}
 use Rattle.terms.specs.declared.Cell.{Cell}
 use Rattle.graphs.specs.Terms.{KTerm}
-use Rattle.graphs.specs.Graph.{Shape, app, Graph, Values, find, Acyclic}
+use Rattle.graphs.specs.Graph.{Values, find, Acyclic}
 use Rattle.graphs.specs.Links.{up_of, counted, restore}
 use Rattle.graphs.specs.Meaning.{kind_algebra, number, Visited, Inside}
-use Rattle.graphs.specs.Cells.{node_at, graph, blank, arguments}
+use Rattle.graphs.specs.Cells.{node_at, graph, arguments}
 
 abbrev pub order_of : List ℕ → ℕ → ℕ
 order_of o n = slice_index o n
@@ -57,13 +57,13 @@ abbrev pub Enclosed : List Cell → List ℕ → List ℕ → ℕ → Type 0
 Enclosed cs l o r = (kind : ℕ → ℕ → ℕ) → Inside kind (graph cs) (up_of l) (order_of o) r
 
 -- the roots of the first n nodes of a list are finished or no functions, and none is open
-pub record Sweeping (cs : List Cell) (l nodes o : List ℕ) (time n : ℕ) : Type 0 where
+pub record SweepingFrom (cs : List Cell) (l nodes o : List ℕ) (time n : ℕ) : Type 0 where
   pub state : Searching cs l o time
   pub closed : (k : ℕ) → slice_index o k ≢ 1
   pub solid : (k : ℕ) → slice_index o k ≢ 2
   pub done : (k : ℕ) → k < n → slice_index nodes k < length l → 2 ≤ number (graph cs) (order_of o) (find (up_of l) (slice_index nodes k))
 
 -- whether no application contains itself, if none did before these nodes were linked
-abbrev pub Walked : List Cell → List ℕ → List ℕ → Bool → Type 0
-Walked cs l nodes true = Acyclic (graph cs) (up_of (restore l nodes)) → Acyclic (graph cs) (up_of l)
-Walked cs l nodes false = Cyclic cs l
+abbrev pub StillAcyclic : List Cell → List ℕ → List ℕ → Bool → Type 0
+StillAcyclic cs l nodes true = Acyclic (graph cs) (up_of (restore l nodes)) → Acyclic (graph cs) (up_of l)
+StillAcyclic cs l nodes false = Cyclic cs l

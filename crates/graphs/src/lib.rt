@@ -1,4 +1,6 @@
 // The theory of unification on linked nodes: cells as a graph, links between its nodes, and what solved links mean.
+#![tactic(auto)]
+
 ghost use Rattle.graphs.specs.Laws.{Decoding, Growing, GrowingAcyclic, Adding, Starting, StartingAcyclic, Room, Following, Spelling, Joining, Living, GrowingLive};
 
 // Two nodes that are to be equal.

@@ -1,20 +1,19 @@
 -- The token at a place is the longest that fits there, and the only one.
-use Rattle.std.proofs.Common.{◌≡◌, ℕ, zero, suc, ◌+◌, ◌-◌, ◌<◌, ◌≤◌, min, Bool, true, false, cond, ◌&&◌, eqb, ltb, leb, ◌⊎◌, List, [], ◌∷◌, ◌++◌, length, get_or, take, drop, Some, None, Option, sym, refl, ap, ◌∙◌, subst, inl, inr, not-suc-le-zero, add-zero, arith}
-use Rattle.std.proofs.lemmas.List.{drop_more, drop-drop, get_or-drop, get_or_past, take_more, length-drop, length-take-le, take-append-drop, length-append, length_push, get_or_at, append_assoc}
-use Rattle.std.proofs.lemmas.Bool.{cond-true, cond-false, cond_both, cases_Bool, cases_lt, cases_order, cases_eq, eq-eqb, eqb-true, eqb-false, leb-true, ltb-true, le-leb, lt-ltb, and_parts, and_from}
-use Rattle.lexis.specs.declared.token.Token.{Token}
+use Rattle.std.proofs.Common.{◌≡◌, ℕ, suc, ◌+◌, ◌-◌, ◌<◌, ◌≤◌, true, cond, ◌&&◌, eqb, ltb, leb, List, [], ◌∷◌, ◌++◌, length, get_or, take, drop, Some, None, Option, sym, refl, ap, ◌∙◌, subst, inl, inr, not-suc-le-zero, add-zero, arith}
+use Rattle.std.proofs.lemmas.List.{drop_more, drop-drop, get_or-drop, get_or_past, take_more, length-drop, length-take-le, take-append-drop, length_push, get_or_at, append_assoc}
+use Rattle.std.proofs.lemmas.Bool.{cond-true, cond-false, cond_both, cases_Bool, cases_lt, eq-eqb, eqb-true, leb-true, ltb-true, le-leb, lt-ltb, and_parts, and_from}
 use Rattle.lexis.specs.declared.token.Kind.{Kind}
-use Rattle.lexis.specs.declared.token.Kind.TheVariants.{Name, Variable, Integer, Float, Text, Open, Close, Comma, Dot, Neck, Query, End}
+use Rattle.lexis.specs.declared.token.Kind.TheVariants.{Name, Variable, Integer, Float, Text, Open, Close, Comma, Dot, Neck, Query}
 use Rattle.lexis.specs.declared.token.Run.{Run}
-use Rattle.lexis.specs.declared.token.Run.TheVariants.{Blank, Word, Digit, Hex, Quoted}
+use Rattle.lexis.specs.declared.token.Run.TheVariants.{Word, Digit, Hex, Quoted}
 use Rattle.lexis.specs.Classes.{class_of}
-use Rattle.lexis.specs.Runs.{front, end_of, belongs, is_hex, is_quoted, is_word}
+use Rattle.lexis.specs.Runs.{front, end_of, belongs, is_hex, is_quoted}
 use Rattle.lexis.specs.Tokens.{float_at, number_at, quoted_at, negative_at, arrow_at, by_mark, mark_at, by_class, shape_at}
 use Rattle.lexis.specs.Worth.{word_of}
 use Rattle.lexis.specs.Spelt.{All, Spelt, NoneAfter, is_digit}
 use Rattle.lexis.specs.Spelt.All.{none, more}
 use Rattle.lexis.specs.Spelt.Spelt.{name, variable, digits, minus, float, quotes, opening, closing, comma, dot, neck, query}
-use Rattle.lexis.proofs.Fronts.{front_yes, front_no, front_within, front_reach, front_exact, front_all}
+use Rattle.lexis.proofs.Fronts.{front_no, front_within, front_reach, front_exact, front_all}
 
 -- the rest of the text, taken apart
 pub rest_head : (text zs : List ℕ) (s b : ℕ) → drop s text ≡ b ∷ zs → get_or text s 0 ≡ b

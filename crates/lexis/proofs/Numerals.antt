@@ -1,8 +1,8 @@
 -- Digit by digit a number comes to what its digits write by their places.
-use Rattle.std.proofs.Common.{◌≡◌, ℕ, zero, suc, ◌+◌, ◌-◌, ◌*◌, ◌^◌, ◌<◌, ◌≤◌, min, Bool, true, false, cond, ◌&&◌, ◌||◌, eqb, leb, ◌⊎◌, List, [], ◌∷◌, map, length, get_or, drop, Some, None, fold, Option, Result, sym, refl, ap, ◌∙◌, subst, inl, inr, not-suc-le-zero, mul_assoc, add-mul, arith}
+use Rattle.std.proofs.Common.{◌≡◌, ℕ, suc, ◌+◌, ◌-◌, ◌*◌, ◌^◌, min, Bool, true, false, eqb, leb, List, [], ◌∷◌, map, length, get_or, drop, Some, fold, Result, sym, refl, ap, ◌∙◌, subst, inl, inr, mul_assoc, add-mul, arith}
 use native.Mathlib.Nat.{pow-succ'}
 use Rattle.std.proofs.lemmas.List.{length-map}
-use Rattle.std.proofs.lemmas.Bool.{cond-true, cond-false, cond_both, cases_Bool, eq-eqb, ne_eqb, leb-true, leb-false, eqb-true, or_cases, and_parts}
+use Rattle.std.proofs.lemmas.Bool.{cond-true, cond-false, cond_both, ne_eqb, leb-true, or_cases, and_parts}
 use Rattle.lexis.specs.declared.fault.Fault.{Fault}
 use Rattle.lexis.specs.declared.token.Token.{Token}
 use Rattle.lexis.specs.declared.token.Kind.{Kind}
@@ -12,7 +12,7 @@ use Rattle.lexis.specs.Runs.{is_hex}
 use Rattle.lexis.specs.Spelt.{All, is_digit}
 use Rattle.lexis.specs.Spelt.All.{none, more}
 use Rattle.lexis.specs.Numbers.{positional, digit_of, hex_digit_of, Numeral}
-use Rattle.lexis.specs.Worth.{word_of, decimal, positive, negated, integer_of, hex_of, hex_at, float_of, sized, value_of, worth_of}
+use Rattle.lexis.specs.Worth.{word_of, decimal, positive, negated, integer_of, hex_of, float_of, sized, value_of, worth_of}
 
 fold_places : (n : ℕ) (ds : List ℕ) → fold (λ m b. m * 10 + (b - 48)) n ds ≡ n * 10 ^ length ds + positional 10 (map digit_of ds)
 fold_places n [] = omega arith

@@ -1,5 +1,5 @@
 -- Bytes that belong together, and how far they go on.
-use Rattle.std.specs.Prelude.{ℕ, suc, ◌+◌, ◌≤◌, Bool, true, false, cond, not, ◌&&◌, ◌||◌, List, [], ◌∷◌, drop, ◌==◌}
+use Rattle.std.specs.Prelude.{ℕ, suc, ◌+◌, ◌≤◌, Bool, cond, not, ◌&&◌, ◌||◌, List, [], ◌∷◌, drop, ◌==◌}
 use Rattle.lexis.specs.Classes.{class_of, within}
 use Rattle.lexis.specs.declared.token.Run.{Run}
 use Rattle.lexis.specs.declared.token.Run.TheVariants.{Blank, Word, Digit, Hex, Quoted}

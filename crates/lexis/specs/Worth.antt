@@ -1,5 +1,5 @@
 -- What a token is worth: a number's bits; and which tokens are too large.
-use Rattle.std.specs.Prelude.{ℕ, ◌+◌, ◌-◌, ◌*◌, ◌%◌, min, Bool, cond, List, [], ◌∷◌, length, drop, Some, None, Ok, Err, fold, Option, Result, ◌==◌, nat_le, slice_index, slice_range}
+use Rattle.std.specs.Prelude.{ℕ, ◌+◌, ◌-◌, ◌*◌, ◌%◌, min, cond, List, length, drop, Some, None, Ok, Err, fold, Option, Result, ◌==◌, nat_le, slice_index, slice_range}
 use Rattle.lexis.specs.declared.fault.Fault.{Fault}
 use Rattle.lexis.specs.declared.fault.Cause.TheVariants.{Size}
 use Rattle.lexis.specs.declared.token.Token.{Token}

@@ -14,9 +14,8 @@ use Rattle.book.specs.Reading.{Accepted, Refused, Asked}
 use Rattle.verdicts.specs.declared.Answer.{Answer}
 use Rattle.verdicts.specs.declared.Refusal.{Refusal}
 use Rattle.typing.specs.Worked.{form}
-use Rattle.frames.specs.Asked.{judged, Answered}
+use Rattle.frames.specs.Asked.{judged, Bounded, Answered}
 use Rattle.frames.specs.Asked.{Asked as Put}
-use Rattle.terms.specs.declared.Cell.{Cell}
 use Rattle.line.specs.declared.Reply.{Reply}
 use Rattle.line.specs.declared.Reply.TheVariants as reply
 
@@ -61,8 +60,14 @@ pub data RepliesWithin (text : List ℕ) (limit allowance : ℕ) (before after :
       → Put (judged (vec_items draft.cells) 12864 512 (length before)) (book_clauses sealed) form limit allowance (vec_items draft.cells) [] before after r
       → RepliesWithin text limit allowance before after (reply_of r)
 
--- The reply of the program: limit 32, allowance 100,000, a path slice of 32 places. Its question is never refused for its cells, so its cut tree tells.
+-- The reply to a text: its fault, or what asking its question tells, within an allowance of 100,000 steps.
 pub data Replies (text : List ℕ) : Reply → Type 0 where
   faulty : {e : Fault} (book : Book) (draft : Draft) → Empty book → ReadsText text book draft (Err e) → Replies text (reply.Faulty e)
+  replied : (book : Book) (draft : Draft) (sealed : SealedBook) (r : Result Answer Refusal) → Empty book → ReadsText text book draft (Ok sealed)
+      → Bounded (judged (vec_items draft.cells) 12864 512 32) 100000 r → Replies text (reply_of r)
+
+-- The reply of the program: limit 32, allowance 100,000, a path slice of 32 places. Its question is never refused for its cells, so its cut tree tells.
+pub data RepliesByTree (text : List ℕ) : Reply → Type 0 where
+  faulty : {e : Fault} (book : Book) (draft : Draft) → Empty book → ReadsText text book draft (Err e) → RepliesByTree text (reply.Faulty e)
   replied : (book : Book) (draft : Draft) (sealed : SealedBook) (r : Result Answer Refusal) (before after : List ℕ) → Empty book → ReadsText text book draft (Ok sealed)
-      → Answered (book_clauses sealed) form 32 100000 (vec_items draft.cells) [] before after r → Replies text (reply_of r)
+      → Answered (book_clauses sealed) form 32 100000 (vec_items draft.cells) [] before after r → RepliesByTree text (reply_of r)

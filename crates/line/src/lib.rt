@@ -1,10 +1,12 @@
 // The line that `endorse` prints, made from the bytes that it reads.
+#![tactic(auto)]
+
 ghost use Rattle.std.specs.Prelude.{◌≡◌, ℕ, ◌+◌, ◌<◌, ◌≤◌, List, [], length, IfOk, string_bytes, nat_lt};
 ghost use Rattle.line.specs.Printed.{printed, word_of};
-ghost use Rattle.line.specs.Reading.{ReadsBook, ReadsText, Replies, RepliesWithin};
+ghost use Rattle.line.specs.Reading.{ReadsBook, ReadsText, Replies, RepliesByTree, RepliesWithin};
 ghost use Rattle.typing.specs.Worked.{form as kinds_by_form};
 ghost use Rattle.book.specs.Meaning.{book_clauses};
-ghost use Rattle.frames.specs.Asked.{judged, Asked as Put};
+ghost use Rattle.frames.specs.Asked.{judged, Bounded, Asked as Put};
 
 use book::question::question_at;
 use book::{Book, SealedBook};
@@ -78,7 +80,8 @@ fn ask(
     settings: Settings,
     path: &mut [u16],
 ) -> Result<Result<Answer, Refusal>, AllocError>
-    ensures { IfOk result (λ a. Put (judged question.now 12864 512 (length path.old)) (book_clauses book.now) kinds_by_form settings.limit settings.allowance question.now [] path.old path.new a) }
+    ensures asked { IfOk result (λ a. Put (judged question.now 12864 512 (length path.old)) (book_clauses book.now) kinds_by_form settings.limit settings.allowance question.now [] path.old path.new a) }
+    ensures bounded { IfOk result (λ a. Bounded (judged question.now 12864 512 (length path.old)) settings.allowance a) }
 {
     let mut search = Search::new(heap)?;
     let mut pairs = Vec::from_elem(heap, Pair { left: 0, right: 0 }, 12864)?;
@@ -127,7 +130,8 @@ fn usual_settings() -> Settings
 
 // What the program has to say to a text.
 pub fn reply_to(heap: Global, text: &[u8]) -> Result<Reply, AllocError>
-    ensures { IfOk result (λ p. Replies text.now p) }
+    ensures replies { IfOk result (λ p. Replies text.now p) }
+    ensures tree { IfOk result (λ p. RepliesByTree text.now p) }
 {
     let mut path = [0u16; 32];
     reply_within(heap, text, usual_settings(), &mut path)
@@ -172,7 +176,8 @@ pub fn shown(heap: Global, reply: Reply) -> Result<String, AllocError>
 
 // The line that is printed for a text, with its line end.
 pub fn line_for(heap: Global, text: &[u8]) -> Result<String, AllocError>
-    ensures { IfOk result (λ s. (p : Reply) × Replies text.now p × (string_bytes s ≡ printed p)) }
+    ensures replies { IfOk result (λ s. (p : Reply) × Replies text.now p × (string_bytes s ≡ printed p)) }
+    ensures tree { IfOk result (λ s. (p : Reply) × RepliesByTree text.now p × (string_bytes s ≡ printed p)) }
 {
     let reply = reply_to(heap, text)?;
     shown(heap, reply)

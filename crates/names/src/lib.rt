@@ -1,4 +1,6 @@
 // The table of names: the bytes of each name once, numbered in order of first appearance.
+#![tactic(auto)]
+
 ghost use Rattle.std.specs.Prelude.{◌≡◌, ℕ, ◌<◌, ◌≤◌, vec_len, vec_capacity, slice_index_or};
 ghost use Rattle.names.specs.Spans.{words_in, bytes_of};
 ghost use Rattle.names.specs.declared.Span.{Span as SpanOf};

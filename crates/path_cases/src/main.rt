@@ -1,5 +1,7 @@
 // For each line `LIMIT ALLOWANCE TEXT` of standard input: the reply to the text under that step limit and allowance, and with holds the path. A line that
 // starts with `#` is a comment.
+#![tactic(auto)]
+
 use line::{Reply, reply_within, shown};
 use std::io::{BufRead, BufReader};
 use verdicts::Verdict;

@@ -1,5 +1,5 @@
 -- Cells that are two terms spell an equation.
-use Rattle.std.proofs.Common.{◌≡◌, ℕ, zero, suc, ◌+◌, ◌-◌, Bool, true, false, cond, eqb, List, [], ◌∷◌, ◌++◌, length, get_or, Some, None, Option, sym, refl, ap, ◌∙◌, ap₂, arith, length-append}
+use Rattle.std.proofs.Common.{◌≡◌, ℕ, ◌+◌, ◌-◌, cond, eqb, List, [], ◌∷◌, ◌++◌, length, get_or, Some, None, Option, sym, refl, ap, ◌∙◌, ap₂, arith, length-append}
 use native.Mathlib.Decide.{ℕ_discrete}
 use Rattle.std.proofs.lemmas.List.{append-nil}
 use Rattle.std.proofs.lemmas.Bool.{cond-true, cond-false, eq-eqb, ne_eqb}
@@ -11,7 +11,7 @@ use Rattle.typing.specs.Worked.{declared}
 use Rattle.graphs.specs.Flat.{count, flat, flats}
 use Rattle.programs.specs.Spelling.{spell_equation}
 use Rattle.programs.proofs.Parsing.{parse_terms}
-use Rattle.programs.proofs.Unique.{flat-prefix}
+use Rattle.programs.proofs.Unique.{flat_prefix}
 
 none_not_some : {A : Type 0} (x : A) → None ≡ Some x → ⊥
 none_not_some x e = let z : ◌≡◌ {A = ℕ} 0 1 = cc in omega arith
@@ -44,8 +44,8 @@ parse_equation p cs = first (skip 1 cs) refl
 
 pub spell_equation_injective : (d e : Equation) → spell_equation d ≡ spell_equation e → d ≡ e
 spell_equation_injective d e h =
-    let p = flat-prefix d.left e.left (flat d.right) (flat e.right) h in
-    let q = flat-prefix d.right e.right [] [] (append-nil (flat d.right) ∙ (p.1 ∙ sym (append-nil (flat e.right)))) in
+    let p = flat_prefix d.left e.left (flat d.right) (flat e.right) h in
+    let q = flat_prefix d.right e.right [] [] (append-nil (flat d.right) ∙ (p.1 ∙ sym (append-nil (flat e.right)))) in
     ap₂ ◌≈◌ p.0 q.0
 
 pub declared_kinds : (groups : List ℕ) (f v : ℕ) → declared_kind groups f v ≡ declared groups f v

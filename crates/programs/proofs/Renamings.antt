@@ -13,19 +13,19 @@ count_applies θ none = refl
 count_applies θ (more t ts) = ap suc (count_applies θ ts)
 
 mutual
-  raised-flat : (b : ℕ) (t : Term) → map (raised_cell b) (flat t) ≡ flat (apply (raised b) t)
-  raised-flat b (var x) = ap (λ n. flat (var n)) (add_comm x b)
-  raised-flat b (con f v) = refl
-  raised-flat b (fun s ts) =
-      ap₂ (λ (n : ℕ) (xs : List Cell). record { tag = 2; form = 0; arity = n; value = s } ∷ xs) (sym (count_applies (raised b) ts)) (raised-flats b ts)
+  raised_flat : (b : ℕ) (t : Term) → map (raised_cell b) (flat t) ≡ flat (apply (raised b) t)
+  raised_flat b (var x) = ap (λ n. flat (var n)) (add_comm x b)
+  raised_flat b (con f v) = refl
+  raised_flat b (fun s ts) =
+      ap₂ (λ (n : ℕ) (xs : List Cell). record { tag = 2; form = 0; arity = n; value = s } ∷ xs) (sym (count_applies (raised b) ts)) (raised_flats b ts)
 
-  raised-flats : (b : ℕ) (ts : Terms) → map (raised_cell b) (flats ts) ≡ flats (applies (raised b) ts)
-  raised-flats b none = refl
-  raised-flats b (more t ts) = map-append (raised_cell b) (flat t) (flats ts) ∙ ap₂ ◌++◌ (raised-flat b t) (raised-flats b ts)
+  raised_flats : (b : ℕ) (ts : Terms) → map (raised_cell b) (flats ts) ≡ flats (applies (raised b) ts)
+  raised_flats b none = refl
+  raised_flats b (more t ts) = map-append (raised_cell b) (flat t) (flats ts) ∙ ap₂ ◌++◌ (raised_flat b t) (raised_flats b ts)
 
 pub renamed_term : (b : ℕ) (t : Term) → renamed b (flat t) ≡ flat (apply (raised b) t)
 unfolding renamed
-renamed_term b t = raised-flat b t
+renamed_term b t = raised_flat b t
 
 pub renamed_append : (b : ℕ) (xs ys : List Cell) → renamed b (xs ++ ys) ≡ renamed b xs ++ renamed b ys
 unfolding renamed

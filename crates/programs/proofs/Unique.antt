@@ -16,33 +16,33 @@ tags : (xs ys : List Cell) → xs ≡ ys → (get_or xs 0 blank).tag ≡ (get_or
 tags xs ys e = ap (λ c. c.tag) (first xs ys e)
 
 mutual
-  pub flat-prefix : (t u : Term) (xs ys : List Cell) → flat t ++ xs ≡ flat u ++ ys → (t ≡ u) × (xs ≡ ys)
-  flat-prefix (var x) (var y) xs ys e = (ap var (ap (λ c. c.value) (first _ _ e)), ap (drop 1) e)
-  flat-prefix (var x) (con g w) xs ys e = let z = tags _ _ e in absurd (omega arith)
-  flat-prefix (var x) (fun r us) xs ys e = let z = tags _ _ e in absurd (omega arith)
-  flat-prefix (con f v) (var y) xs ys e = let z = tags _ _ e in absurd (omega arith)
-  flat-prefix (con f v) (con g w) xs ys e = let c = first _ _ e in (ap₂ con (ap (λ c. c.form) c) (ap (λ c. c.value) c), ap (drop 1) e)
-  flat-prefix (con f v) (fun r us) xs ys e = let z = tags _ _ e in absurd (omega arith)
-  flat-prefix (fun s ts) (var y) xs ys e = let z = tags _ _ e in absurd (omega arith)
-  flat-prefix (fun s ts) (con g w) xs ys e = let z = tags _ _ e in absurd (omega arith)
-  flat-prefix (fun s ts) (fun r us) xs ys e =
+  pub flat_prefix : (t u : Term) (xs ys : List Cell) → flat t ++ xs ≡ flat u ++ ys → (t ≡ u) × (xs ≡ ys)
+  flat_prefix (var x) (var y) xs ys e = (ap var (ap (λ c. c.value) (first _ _ e)), ap (drop 1) e)
+  flat_prefix (var x) (con g w) xs ys e = let z = tags _ _ e in absurd (omega arith)
+  flat_prefix (var x) (fun r us) xs ys e = let z = tags _ _ e in absurd (omega arith)
+  flat_prefix (con f v) (var y) xs ys e = let z = tags _ _ e in absurd (omega arith)
+  flat_prefix (con f v) (con g w) xs ys e = let c = first _ _ e in (ap₂ con (ap (λ c. c.form) c) (ap (λ c. c.value) c), ap (drop 1) e)
+  flat_prefix (con f v) (fun r us) xs ys e = let z = tags _ _ e in absurd (omega arith)
+  flat_prefix (fun s ts) (var y) xs ys e = let z = tags _ _ e in absurd (omega arith)
+  flat_prefix (fun s ts) (con g w) xs ys e = let z = tags _ _ e in absurd (omega arith)
+  flat_prefix (fun s ts) (fun r us) xs ys e =
       let c = first _ _ e in
-      let p = flats-prefix ts us xs ys (ap (λ c. c.arity) c) (ap (drop 1) e) in
+      let p = flats_prefix ts us xs ys (ap (λ c. c.arity) c) (ap (drop 1) e) in
       (ap₂ fun (ap (λ c. c.value) c) p.0, p.1)
 
-  pub flats-prefix : (ts us : Terms) (xs ys : List Cell) → count ts ≡ count us → flats ts ++ xs ≡ flats us ++ ys → (ts ≡ us) × (xs ≡ ys)
-  flats-prefix none none xs ys n e = (refl, e)
-  flats-prefix none (more u us) xs ys n e = absurd (omega arith)
-  flats-prefix (more t ts) none xs ys n e = absurd (omega arith)
-  flats-prefix (more t ts) (more u us) xs ys n e =
+  pub flats_prefix : (ts us : Terms) (xs ys : List Cell) → count ts ≡ count us → flats ts ++ xs ≡ flats us ++ ys → (ts ≡ us) × (xs ≡ ys)
+  flats_prefix none none xs ys n e = (refl, e)
+  flats_prefix none (more u us) xs ys n e = absurd (omega arith)
+  flats_prefix (more t ts) none xs ys n e = absurd (omega arith)
+  flats_prefix (more t ts) (more u us) xs ys n e =
       let f : flat t ++ (flats ts ++ xs) ≡ flat u ++ (flats us ++ ys) = sym (append_assoc (flat t) (flats ts) xs) ∙ (e ∙ append_assoc (flat u) (flats us) ys) in
-      let p = flat-prefix t u (flats ts ++ xs) (flats us ++ ys) f in
-      let q = flats-prefix ts us xs ys (omega arith) p.1 in
+      let p = flat_prefix t u (flats ts ++ xs) (flats us ++ ys) f in
+      let q = flats_prefix ts us xs ys (omega arith) p.1 in
       (ap₂ more p.0 q.0, q.1)
 
 pub goal_prefix : (g h : Goal) (xs ys : List Cell) → spell_goal g ++ xs ≡ spell_goal h ++ ys → (g ≡ h) × (xs ≡ ys)
 goal_prefix g h xs ys e =
-    let p = flat-prefix (fun g.symbol g.arguments) (fun h.symbol h.arguments) xs ys e in
+    let p = flat_prefix (fun g.symbol g.arguments) (fun h.symbol h.arguments) xs ys e in
     (parts g.symbol h.symbol g.arguments h.arguments p.0, p.1)
   where
     parts : (s r : ℕ) (ts us : Terms) → fun s ts ≡ fun r us → ◌≡◌ {A = Goal} (record { symbol = s; arguments = ts }) (record { symbol = r; arguments = us })

@@ -2,6 +2,8 @@
 // of lot, stage and cycles, each two bytes with the higher first, then the records. After a `*` the records are taken 65,536 times over. A line that
 // starts with `#` is a comment. Told are the fault, the facts under each symbol (the card, a for atom or i for integer, the value; of a long list the
 // last), those of a pair of two such sources under the stage's symbol, and the cells under the lot's symbol of the source, the pair and a pair of pairs.
+#![tactic(auto)]
+
 ghost use Rattle.std.specs.Prelude.{◌≡◌, ◌+◌, ◌<◌, ◌≤◌, ◌++◌, length, IfOk, string_bytes, OnOk};
 ghost use Rattle.records.specs.Faults.{fault_of};
 ghost use Rattle.record_cases.specs.Spelling.{hex_of, is_blank, spelled, symbol_at, fault_text};

@@ -7,9 +7,9 @@ use terms::Cell;
 
 // How many cells one clause has.
 fn cells_of<S: Source>(source: &S, symbol: u32, arity: u8, i: usize, out: &mut [Cell]) -> usize
-    requires i_in_bounds { i < length (clauses source.now symbol arity) }
+    requires i_in_bounds { i < length (S.clauses source.now symbol arity) }
     requires in_bounds { 32 ≤ length out.old }
-    ensures value { result ≡ length (slice_index_or (clauses source.now symbol arity) i []) }
+    ensures value { result ≡ length (slice_index_or (S.clauses source.now symbol arity) i []) }
     ensures upper_bound { result ≤ 32 }
 {
     match source.write(symbol, arity, i, 0, out, 0) {
@@ -20,7 +20,7 @@ fn cells_of<S: Source>(source: &S, symbol: u32, arity: u8, i: usize, out: &mut [
 
 // How many cells all clauses of the predicate have.
 pub fn total<S: Source>(source: &S, symbol: u32, arity: u8) -> usize
-    ensures { result ≡ sizes (clauses source.now symbol arity) }
+    ensures { result ≡ sizes (S.clauses source.now symbol arity) }
 {
     let mut out = [Cell {
         tag: 0,

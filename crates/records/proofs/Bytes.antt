@@ -1,10 +1,10 @@
 -- Numbers in bytes, and a record's fields by their places.
-use Rattle.std.proofs.Common.{◌≡◌, ℕ, ◌+◌, ◌*◌, ◌<◌, ◌≤◌, Bool, true, false, cond, List, [], ◌∷◌, length, get_or, take, drop, Some, None, Option, sym, refl, ap, ◌∙◌, subst, arith}
-use Rattle.std.proofs.lemmas.List.{drop_more, drop-drop, drop_all}
+use Rattle.std.proofs.Common.{◌≡◌, ℕ, ◌+◌, ◌*◌, ◌≤◌, Bool, true, false, cond, List, [], ◌∷◌, length, get_or, take, drop, Some, None, Option, sym, refl, ap, ◌∙◌, arith}
+use Rattle.std.proofs.lemmas.List.{drop_more, drop-drop}
 use Rattle.records.specs.declared.format.Field.{Field}
 use Rattle.records.specs.declared.format.Field.TheVariants.{Card, Lot, Stage, Cycles}
 use Rattle.records.specs.declared.format.Record.{Record}
-use Rattle.records.specs.Format.{little, entries, record_of, record_in, field_in, fields_by_place, stands, width_of, size_of, fields_of}
+use Rattle.records.specs.Format.{little, entries, record_of, record_in, fields_by_place, stands, fields_of}
 
 pub little_two : (bs : List ℕ) (at : ℕ) → at + 2 ≤ length bs → little (take 2 (drop at bs)) ≡ get_or bs at 0 + 256 * get_or bs (at + 1) 0
 little_two bs at h =

@@ -1,5 +1,6 @@
 -- The numbers of facts fit, since those of bytes do.
-use Rattle.std.proofs.Common.{◌≡◌, ℕ, zero, suc, ◌+◌, ◌-◌, ◌*◌, ◌<◌, ◌≤◌, Bool, true, false, cond, ◌&&◌, eqb, ltb, List, [], ◌∷◌, ◌++◌, length, get_or, take, drop, Some, None, All, filter, Option, sym, refl, ap, ◌∙◌, subst, arith}
+use Rattle.std.proofs.Common.{◌≡◌, ℕ, zero, suc, ◌+◌, ◌<◌, Bool, true, false, cond, ◌&&◌, eqb, ltb, List, [], ◌∷◌, ◌++◌, get_or, take, drop, Some, None, All, filter, Option, sym, refl, ap, ◌∙◌, subst, arith}
+use Rattle.std.proofs.lemmas.List.Elements.{All-nil, All-cons, All-head, All-tail}
 use Rattle.std.specs.List.{flat_map}
 use Rattle.std.proofs.lemmas.List.{get_or-drop}
 use Rattle.std.proofs.lemmas.List.Elements.{filter-append}
@@ -44,8 +45,8 @@ entry_small : (f : Field) (bs : List ℕ) → Octets bs → size_of f ≡ 2 → 
 entry_small f bs h e = subst (λ (n : ℕ). little (take n bs) < 65536) (sym e) (word_small bs h)
 
 entries_small : (fs : List Field) (bs : List ℕ) → Octets bs → All Held (entries fs bs)
-entries_small [] bs h = tt
-entries_small (f ∷ fs) bs h = (entry_small f bs h, entries_small fs (drop (size_of f) bs) (octets_drop (size_of f) bs h))
+entries_small [] bs h = All-nil Held
+entries_small (f ∷ fs) bs h = All-cons Held _ _ (entry_small f bs h) (entries_small fs (drop (size_of f) bs) (octets_drop (size_of f) bs h))
 
 same_size : (f g : Field) → eqb (bit_of f) (bit_of g) ≡ true → size_of g ≡ size_of f
 same_size Card Card e = refl
@@ -72,7 +73,7 @@ pick_small false n o p q = q
 value_small : (f : Field) (es : List Entry) → size_of f ≡ 2 → All Held es → Under (value_of f es)
 value_small f [] e h = tt
 value_small f (x ∷ xs) e h =
-    pick_small (eqb (bit_of f) (bit_of x.field)) x.value (value_of f xs) (λ k. h.0 (same_size f x.field k ∙ e)) (value_small f xs e h.1)
+    pick_small (eqb (bit_of f) (bit_of x.field)) x.value (value_of f xs) (λ k. All-head Held x xs h (same_size f x.field k ∙ e)) (value_small f xs e (All-tail Held x xs h))
 
 or_zero_small : (o : Option ℕ) → Under o → or_zero o < 65536
 or_zero_small None h = omega arith
@@ -85,12 +86,12 @@ record_small bs h =
     (or_zero_small _ (value_small Card _ refl es), value_small Lot _ refl es, value_small Stage _ refl es)
 
 all_or_none : (g : Bool) (r : Record) (rs : List Record) → Small r → All Small rs → All Small (cond g (r ∷ rs) [])
-all_or_none true r rs h k = (h, k)
-all_or_none false r rs h k = tt
+all_or_none true r rs h k = All-cons Small r rs h k
+all_or_none false r rs h k = All-nil Small
 
 records_small : (n : ℕ) (bs : List ℕ) → Octets bs → All Small (records_from n bs)
 unfolding records_from
-records_small n [] h = tt
+records_small n [] h = All-nil Small
 records_small (suc n) (b ∷ bs) h = records_small n bs (octets_tail b bs h)
 records_small zero (b ∷ bs) h = all_or_none (is_good (fault_in (b ∷ bs))) (record_in (b ∷ bs)) (records_from (sizes (fields_of b)) bs) (record_small (b ∷ bs) h) (records_small (sizes (fields_of b)) bs (octets_tail b bs h))
 
@@ -143,7 +144,7 @@ said_fit s x r hx h =
 all_said_fit : (s : Symbols) (x : ℕ) (rs : List Record) → x < 65536 → All Small rs → all_fit x (filter (is_for x) (flat_map (record_facts s) rs)) ≡ true
 all_said_fit s x [] hx h = refl
 all_said_fit s x (r ∷ rs) hx h =
-    ap (all_fit x) (filter-append (is_for x) (record_facts s r) (flat_map (record_facts s) rs)) ∙ fit_append x (filter (is_for x) (record_facts s r)) _ (said_fit s x r hx h.0) (all_said_fit s x rs hx h.1)
+    ap (all_fit x) (filter-append (is_for x) (record_facts s r) (flat_map (record_facts s) rs)) ∙ fit_append x (filter (is_for x) (record_facts s r)) _ (said_fit s x r hx (All-head Small r rs h)) (all_said_fit s x rs hx (All-tail Small r rs h))
 
 -- what was gathered fits
 pub gathered_fit : (s : Symbols) (x : ℕ) (bytes : List ℕ) (fs : List Fact) → x < 65536 → ((i : ℕ) → get_or bytes i 0 < 256) → fs ≡ cut (filter (is_for x) (facts_of s bytes)) → all_fit x fs ≡ true

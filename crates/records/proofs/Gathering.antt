@@ -1,13 +1,13 @@
 -- Lists of facts, one more at a time.
-use Rattle.std.proofs.Common.{◌≡◌, ℕ, zero, suc, ◌+◌, ◌-◌, ◌<◌, ◌≤◌, min, Bool, true, false, cond, ◌&&◌, ltb, List, [], ◌∷◌, ◌++◌, length, get_or, take, drop, Some, None, filter, Option, sym, refl, ap, ◌∙◌, subst, inl, inr, append_assoc, arith}
+use Rattle.std.proofs.Common.{◌≡◌, ℕ, ◌<◌, ◌≤◌, Bool, true, false, cond, ◌&&◌, ltb, List, [], ◌∷◌, ◌++◌, length, take, Some, None, filter, Option, sym, refl, ap, ◌∙◌, inl, inr, append_assoc, arith}
 use Rattle.std.specs.List.{flat_map}
 use Rattle.std.proofs.lemmas.List.{take_all, take-append-le, take-take, take_at, length-take, append-nil, length_push}
 use Rattle.std.proofs.lemmas.List.Elements.{filter-append}
-use Rattle.std.proofs.lemmas.Bool.{cond-true, cond-false, cases_lt, ltb-true, ltb-false}
+use Rattle.std.proofs.lemmas.Bool.{cond-true, cases_lt, ltb-true, ltb-false}
 use Rattle.records.specs.declared.fact.Fact.{Fact}
 use Rattle.records.specs.declared.fact.Symbols.{Symbols}
 use Rattle.records.specs.declared.format.Record.{Record}
-use Rattle.records.specs.Facts.{cut, is_for, listed, record_facts, facts_of, atom_fact, integer_fact, with_fact}
+use Rattle.records.specs.Facts.{cut, is_for, listed, record_facts, atom_fact, integer_fact, with_fact}
 
 pub cut_few : (fs : List Fact) → length fs ≤ 65535 → cut fs ≡ fs
 unfolding cut

@@ -1,5 +1,5 @@
 -- Good records one after the other.
-use Rattle.std.proofs.Common.{◌≡◌, ℕ, zero, suc, ◌+◌, ◌-◌, ◌<◌, ◌≤◌, Bool, true, false, cond, not, eqb, leb, ◌⊎◌, List, [], ◌∷◌, ◌++◌, map, length, get_or, take, drop, Some, None, Option, sym, refl, ap, ◌∙◌, subst, inl, inr, arith}
+use Rattle.std.proofs.Common.{◌≡◌, ℕ, zero, suc, ◌+◌, ◌-◌, ◌<◌, ◌≤◌, Bool, cond, not, eqb, leb, List, [], ◌∷◌, ◌++◌, map, length, get_or, take, drop, Some, None, Option, sym, refl, ap, ◌∙◌, subst, inl, inr, arith}
 use Rattle.std.proofs.lemmas.List.{take-append-le, drop-append-le, drop_at, drop-drop, length-drop, length-append, length-take-le, get_or_append_left, get_or-take, take-append-drop}
 use Rattle.std.proofs.lemmas.Bool.{ne_eqb, lt-leb}
 use Rattle.records.specs.declared.fault.Cause.{Cause}
@@ -7,7 +7,7 @@ use Rattle.records.specs.declared.fault.Cause.TheVariants.{Short, Map, Cycles}
 use Rattle.records.specs.declared.format.Field.{Field}
 use Rattle.records.specs.declared.format.Record.{Record}
 use Rattle.records.specs.Format.{Entry, map_fits, size_of, sizes, fields_of, little, entries, record_of, record_in}
-use Rattle.records.specs.Faults.{fault_in, end_from, records_from, end_of, records_of, fault_of, told_at, too_many}
+use Rattle.records.specs.Faults.{fault_in, end_of, records_of, told_at, too_many}
 use Rattle.records.specs.Parting.{Whole, Parted, PartingLaw}
 use Rattle.records.specs.Parting.Parted.{ended, more}
 use Rattle.records.proofs.Scanning.{good_whole, end_good, records_good, end_bad, records_bad, end_none, records_none}

@@ -1,10 +1,9 @@
 -- From one record to the next.
-use Rattle.std.proofs.Common.{◌≡◌, ℕ, zero, suc, ◌+◌, ◌-◌, ◌<◌, ◌≤◌, Bool, true, false, cond, not, eqb, leb, List, [], ◌∷◌, length, get_or, take, drop, Some, None, Option, sym, refl, ap, ◌∙◌, subst, arith}
-use Rattle.std.proofs.lemmas.List.{drop_more, drop-drop, drop_all, length-drop, get_or-drop}
+use Rattle.std.proofs.Common.{◌≡◌, ℕ, zero, suc, ◌+◌, ◌-◌, ◌<◌, ◌≤◌, Bool, true, false, cond, not, eqb, leb, List, [], ◌∷◌, length, get_or, drop, Some, None, Option, sym, refl, ap, ◌∙◌, subst, arith}
+use Rattle.std.proofs.lemmas.List.{drop-drop, drop_all, length-drop, get_or-drop}
 use Rattle.std.proofs.lemmas.Bool.{cond-true, cond-false, ne_eqb, leb-false}
 use Rattle.records.specs.declared.fault.Cause.{Cause}
 use Rattle.records.specs.declared.fault.Cause.TheVariants.{Short, Map, Cycles}
-use Rattle.records.specs.declared.format.Record.{Record}
 use Rattle.records.specs.Format.{map_fits, sizes, fields_of, record_in}
 use Rattle.records.specs.Faults.{fault_in, is_good, end_from, records_from, end_of, records_of, too_many}
 

@@ -1,5 +1,5 @@
 -- The facts of records.
-use Rattle.std.specs.Prelude.{◌≡◌, ℕ, ◌<◌, Bool, cond, List, [], ◌∷◌, ◌++◌, take, Some, None, filter, Option, ◌==◌}
+use Rattle.std.specs.Prelude.{ℕ, Bool, cond, List, [], ◌∷◌, ◌++◌, take, Some, None, filter, Option, ◌==◌}
 use Rattle.std.specs.List.{flat_map}
 use Rattle.terms.specs.declared.Cell.{Cell}
 use Rattle.records.specs.declared.fact.Symbols.{Symbols}

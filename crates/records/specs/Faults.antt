@@ -1,5 +1,5 @@
 -- What is wrong with a record, and where the good records of a byte string end.
-use Rattle.std.specs.Prelude.{ℕ, zero, suc, ◌+◌, Bool, true, false, cond, not, List, [], ◌∷◌, length, drop, Some, None, Option, ◌==◌, nat_le, slice_index}
+use Rattle.std.specs.Prelude.{ℕ, zero, suc, Bool, true, false, cond, not, List, [], ◌∷◌, length, drop, Some, None, Option, ◌==◌, nat_le, slice_index}
 use Rattle.records.specs.declared.fault.Cause.{Cause}
 use Rattle.records.specs.declared.fault.Cause.TheVariants.{Short, Map, Cycles}
 use Rattle.records.specs.declared.fault.BenchFault.{BenchFault}

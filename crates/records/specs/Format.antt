@@ -1,5 +1,5 @@
 -- Which fields a record has, and what they say.
-use Rattle.std.specs.Prelude.{ℕ, ◌+◌, ◌*◌, ◌<◌, Bool, cond, not, ◌&&◌, List, [], ◌∷◌, length, take, drop, Some, None, filter, Option, ◌==◌, bit_and, slice_index}
+use Rattle.std.specs.Prelude.{ℕ, ◌+◌, ◌*◌, Bool, cond, not, ◌&&◌, List, [], ◌∷◌, take, drop, Some, None, filter, Option, ◌==◌, bit_and, slice_index}
 use Rattle.records.specs.declared.format.Field.{Field}
 use Rattle.records.specs.declared.format.Field.TheVariants.{Card, Lot, Stage, Cycles}
 use Rattle.records.specs.declared.format.Record.{Record}

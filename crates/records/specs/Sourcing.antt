@@ -1,13 +1,13 @@
 -- Kept facts as clauses.
-use Rattle.std.specs.Prelude.{◌≡◌, ℕ, zero, suc, ◌+◌, ◌-◌, ◌<◌, ◌≤◌, Bool, true, false, cond, ◌&&◌, List, [], ◌∷◌, ◌++◌, map, length, get_or, take, Some, None, vec_items, vec_len, All, filter, Option, ◌==◌, nat_lt, slice_index_or, refl}
+use Rattle.std.specs.Prelude.{◌≡◌, ℕ, zero, suc, ◌<◌, ◌≤◌, Bool, true, false, cond, ◌&&◌, List, [], ◌∷◌, ◌++◌, map, length, get_or, take, Some, None, vec_items, All, filter, Option, ◌==◌, nat_lt, slice_index_or, refl}
 use Rattle.std.proofs.Common.{ap, ◌∙◌, sym, subst, arith}
 use Rattle.std.specs.List.{flat_map}
 use Rattle.std.proofs.lemmas.List.{length-map, get_or-map}
-use Rattle.std.proofs.lemmas.List.Elements.{filter-append}
+use Rattle.std.proofs.lemmas.List.Elements.{filter-append, All-nil, All-cons}
 use Rattle.std.proofs.lemmas.Bool.{eqb-true, eqb-false, ne_eqb, cond-true, cond-false}
 use Rattle.terms.specs.declared.Cell.{Cell}
 use Rattle.terms.specs.Shape.{goals}
-use Rattle.clauses.specs.Clauses.{Formed, Low, Slim}
+use Rattle.clauses.specs.Clauses.{OfPredicate, Low, Slim}
 use Rattle.records.specs.declared.Records.{Records}
 use Rattle.records.specs.declared.format.Record.{Record}
 use Rattle.records.specs.declared.fact.Fact.{Fact}
@@ -147,14 +147,19 @@ spelled : (s c : ℕ) (v : Value) → nat_lt s 65536 ≡ true → nat_lt c 65536
 spelled s c (Atom n) hs hc hv = cond-true (nat_lt s 65536) _ _ hs ∙ (cond-true (nat_lt c 65536) _ _ hc ∙ cond-true (nat_lt n 65536) _ _ hv)
 spelled s c (Integer n) hs hc hv = cond-true (nat_lt s 65536) _ _ hs ∙ cond-true (nat_lt c 65536) _ _ hc
 
+three : (P : Cell → Type 0) (x y z : Cell) → P x → P y → P z → All P (x ∷ y ∷ z ∷ [])
+three P x y z a b c = All-cons P x (y ∷ z ∷ []) a (All-cons P y (z ∷ []) b (All-cons P z [] c (All-nil P)))
+
 -- a fact that fits is a clause of its predicate with no body
-formed_cells : (p : ℕ) (s c : ℕ) (v : Value) → s ≡ p → nat_lt s 65536 ≡ true → nat_lt c 65536 ≡ true → value_fits v ≡ true → Formed p 2 (head_cell s ∷ card_cell c ∷ value_cell v ∷ [])
+formed_cells : (p : ℕ) (s c : ℕ) (v : Value) → s ≡ p → nat_lt s 65536 ≡ true → nat_lt c 65536 ≡ true → value_fits v ≡ true → OfPredicate p 2 (head_cell s ∷ card_cell c ∷ value_cell v ∷ [])
 formed_cells p s c (Atom n) e hs hc hv =
     record {
-      some = omega arith;
-      few = omega arith;
-      low = ((λ k. omega arith), ((λ k. omega arith), ((λ k. omega arith), tt)));
-      slim = (omega arith, (omega arith, (omega arith, tt)));
+      formed = record {
+        some = omega arith;
+        few = omega arith;
+        low = three Low (head_cell s) (card_cell c) (value_cell (Atom n)) (λ k. omega arith) (λ k. omega arith) (λ k. omega arith);
+        slim = three Slim (head_cell s) (card_cell c) (value_cell (Atom n)) (omega arith) (omega arith) (omega arith);
+      };
       body = 0;
       goal_list = spelled s c (Atom n) hs hc hv;
       eight = omega arith;
@@ -163,10 +168,12 @@ formed_cells p s c (Atom n) e hs hc hv =
     }
 formed_cells p s c (Integer n) e hs hc hv =
     record {
-      some = omega arith;
-      few = omega arith;
-      low = ((λ k. omega arith), ((λ k. omega arith), ((λ k. omega arith), tt)));
-      slim = (omega arith, (omega arith, (omega arith, tt)));
+      formed = record {
+        some = omega arith;
+        few = omega arith;
+        low = three Low (head_cell s) (card_cell c) (value_cell (Integer n)) (λ k. omega arith) (λ k. omega arith) (λ k. omega arith);
+        slim = three Slim (head_cell s) (card_cell c) (value_cell (Integer n)) (omega arith) (omega arith) (omega arith);
+      };
       body = 0;
       goal_list = spelled s c (Integer n) hs hc hv;
       eight = omega arith;
@@ -174,17 +181,17 @@ formed_cells p s c (Integer n) e hs hc hv =
       in_order = ((λ k. omega arith), ((λ k. omega arith), ((λ k. omega arith), tt)));
     }
 
-formed_fact : (p : ℕ) (f : Fact) → fits p f ≡ true → Formed p 2 (cells_of f)
+formed_fact : (p : ℕ) (f : Fact) → fits p f ≡ true → OfPredicate p 2 (cells_of f)
 formed_fact p f h =
     let a = right_true (f.symbol == p) _ h in
     let b = right_true (nat_lt f.symbol 65536) _ a in
     formed_cells p f.symbol f.card f.value (eqb-true f.symbol p (left_true (f.symbol == p) _ h)) (left_true (nat_lt f.symbol 65536) _ a) (left_true (nat_lt f.card 65536) _ b)
     (right_true (nat_lt f.card 65536) _ b)
 
-pub records_formed : (r : Records) (p n k : ℕ) → k < length (record_clauses r p n) → Formed p n (slice_index_or (record_clauses r p n) k [])
+pub records_formed : (r : Records) (p n k : ℕ) → k < length (record_clauses r p n) → OfPredicate p n (slice_index_or (record_clauses r p n) k [])
 records_formed r p n k h =
     let c = clauses_count r p n in
     let l : k < length (list_of r p n) = omega arith in
     let w = kept_list r p n in
-    subst (λ (m : ℕ). Formed p m (slice_index_or (record_clauses r p n) k [])) (sym (w.1 (omega arith)))
-    (subst (Formed p 2) (sym (clause_is r p n k fact₀ l)) (formed_fact p (slice_index_or (list_of r p n) k fact₀) (one_of p (list_of r p n) k fact₀ l w.0.1)))
+    subst (λ (m : ℕ). OfPredicate p m (slice_index_or (record_clauses r p n) k [])) (sym (w.1 (omega arith)))
+    (subst (OfPredicate p 2) (sym (clause_is r p n k fact₀ l)) (formed_fact p (slice_index_or (list_of r p n) k fact₀) (one_of p (list_of r p n) k fact₀ l w.0.1)))

@@ -1,4 +1,6 @@
 // The bench's byte records as a source of facts.
+#![tactic(auto)]
+
 ghost use Rattle.std.specs.Prelude.{◌≡◌, ◌≤◌, true, vec_len};
 ghost use Rattle.records.specs.Fit.{all_fit};
 

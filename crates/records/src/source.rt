@@ -9,7 +9,7 @@ use crate::Records;
 use crate::fact::{Fact, Symbols, cells_of};
 use crate::gather::gather;
 use crate::scan::first_bad;
-use clauses::{Refusal, Source, rename};
+use clauses::{ProgramSource, Refusal, Source, rename};
 use std::alloc::{AllocError, Global};
 use terms::Cell;
 
@@ -74,7 +74,7 @@ impl Source for Records {
 
     ghost short = { records_short };
 
-    ghost formed = { records_formed };
+    ghost formed = { λ s p n k h. (records_formed s p n k h).formed };
 
     fn count(&self, symbol: u32, arity: u8) -> usize {
         self.listing(symbol, arity).len()
@@ -102,4 +102,8 @@ impl Source for Records {
         rename::write_from(&cells, base, out, at);
         Ok(3)
     }
+}
+
+impl ProgramSource for Records {
+    ghost of_predicate = { records_formed };
 }

@@ -1,19 +1,18 @@
 -- What a question and a reading come to where the equations that stand are solved.
-use Rattle.std.proofs.Common.{◌≡◌, ℕ, ◌<◌, ◌≤◌, Bool, true, false, ltb, List, length, Some, None, Ok, Err, Option, Result, sym, refl, ap, ◌∙◌, subst, arith}
+use Rattle.std.proofs.Common.{◌≡◌, ℕ, ◌≤◌, List, length, None, Option, Result, sym, refl, subst}
 use Rattle.std.proofs.lemmas.Bool.{le-ltb}
 use Rattle.terms.specs.declared.Cell.{Cell}
-use Rattle.typing.specs.Terms.{Eqs, Signature}
+use Rattle.typing.specs.Terms.{Signature}
 use Rattle.typing.proofs.Orders.{every_order}
 use Rattle.graphs.specs.Flat.{flat}
 use Rattle.unification.specs.declared.Outcome.{Outcome}
-use Rattle.unification.specs.declared.Outcome.TheVariants.{Solved, False, Wrong}
+use Rattle.unification.specs.declared.Outcome.TheVariants.{Solved}
 use Rattle.unification.specs.Reading.{Written, ReadsVariable}
 use Rattle.verdicts.specs.declared.Refusal as search
 use Rattle.verdicts.specs.declared.Answer.{Answer}
 use Rattle.frames.specs.Asked as frames
 use Rattle.store.specs.declared.Refusal.{Refusal}
-use Rattle.store.specs.declared.Refusal.TheVariants.{OutputShort, NotSolved}
-use Rattle.store.specs.Calls.{Told, answer_of, Inferred, AskedWith, AskedUnder, AskedBy, WroteOut, Shown, ReadBy}
+use Rattle.store.specs.Calls.{Told, answer_of, Inferred, AskedWith, AskedBy, WroteOut, ReadBy}
 use Rattle.store.specs.Solved.{Stood}
 
 -- the outcome that was told

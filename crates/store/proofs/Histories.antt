@@ -1,6 +1,6 @@
 -- What holds after every history.
-use Rattle.std.proofs.Common.{◌≡◌, ℕ, zero, suc, ◌+◌, ◌-◌, ◌<◌, ◌≤◌, List, [], ◌∷◌, ◌++◌, length, get_or, take, drop, set, Ok, Err, Option, Result, sym, refl, ap, ◌∙◌, subst, arith}
-use Rattle.std.proofs.lemmas.List.{take_more, take_more_set, take-take, take_all, get_or_default}
+use Rattle.std.proofs.Common.{◌≡◌, ℕ, zero, suc, ◌+◌, ◌<◌, List, [], ◌∷◌, ◌++◌, length, get_or, take, set, Ok, Err, Result, sym, refl, ◌∙◌, subst, arith}
+use Rattle.std.proofs.lemmas.List.{take_more, take_more_set, take-take, take_all}
 use Rattle.terms.specs.declared.Cell.{Cell}
 use Rattle.typing.specs.Terms.{Eqs, Signature}
 use Rattle.typing.proofs.Orders.{every_order}
@@ -8,13 +8,12 @@ use Rattle.store.specs.declared.Refusal.{Refusal}
 use Rattle.store.specs.declared.call.Call.{Call}
 use Rattle.store.specs.declared.call.Call.TheVariants.{Enter, Mark, Keep, TakeBack, Ask, Read}
 use Rattle.store.specs.declared.call.Reply.{Reply}
-use Rattle.store.specs.declared.call.Reply.TheVariants.{OfEnter, OfMark, OfKeep, OfTakeBack, OfAsk, OfRead}
 use Rattle.store.specs.Judged.{judged, judged_question, judged_variable}
 use Rattle.store.specs.Model.{Model, opened, without_mark, cut_back}
 use Rattle.store.specs.Calls.{Spelt}
-use Rattle.store.specs.History.{Fixed, fixed, World, world, Step, History, none, next, Says, Holds, AfterEveryHistory, Ran, Held, Replayed}
+use Rattle.store.specs.History.{Fixed, fixed, World, world, Step, History, none, next, Says, AfterEveryHistory, Ran, Held, Replayed}
 use Rattle.store.proofs.Marks.{Well, well_opened, well_without, well_back, entered_well, marked_well, ended_well, entries_spell, spelt_only}
-use Rattle.store.proofs.Saying.{enter_says, ask-says, ask-unsolved, read-says, read-unsolved}
+use Rattle.store.proofs.Saying.{enter_says, ask_says, ask_unsolved, read_says, read_unsolved}
 
 step_well : (f : Fixed) (w : World) (c : Call) (a : Reply) (w' : World) → Step f w c a w' → Well w.model → Well w'.model
 step_well f w (Enter cells) a w' s h =
@@ -36,12 +35,12 @@ step_says f w E e Mark a w' s = tt
 step_says f w E e (Keep t) a w' s = tt
 step_says f w E e (TakeBack t) a w' s = tt
 step_says f w E e (Ask question) a w' s = (
-  (λ b i. ask-says f w.model E e question.now w.path w'.path s.0 b (cc s.1) (judged_question question.now f.pairs f.frames) s.2),
-  (λ i. ask-unsolved f w.model E e question.now w.path w'.path s.0 (cc s.1) (judged_question question.now f.pairs f.frames) refl s.2),
+  (λ b i. ask_says f w.model E e question.now w.path w'.path s.0 b (cc s.1) (judged_question question.now f.pairs f.frames) s.2),
+  (λ i. ask_unsolved f w.model E e question.now w.path w'.path s.0 (cc s.1) (judged_question question.now f.pairs f.frames) refl s.2),
 )
 step_says f w E e (Read v) a w' s = (
-  (λ n i θ reads. read-says f.kind w.model E e v w.out w'.out s.0 n (cc s.1) θ reads (judged_variable v f.pairs f.frames) s.2),
-  (λ i. read-unsolved f w.model E e v w.out w'.out s.0 (cc s.1) (judged_variable v f.pairs f.frames) refl s.2),
+  (λ n i θ reads. read_says f.kind w.model E e v w.out w'.out s.0 n (cc s.1) θ reads (judged_variable v f.pairs f.frames) s.2),
+  (λ i. read_unsolved f w.model E e v w.out w'.out s.0 (cc s.1) (judged_variable v f.pairs f.frames) refl s.2),
 )
 
 pub after_every_history : (f : Fixed) → AfterEveryHistory f

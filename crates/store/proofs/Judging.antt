@@ -5,11 +5,10 @@ use Rattle.terms.specs.declared.Cell.{Cell}
 use Rattle.terms.specs.Shape.{two_terms, goals, all_low}
 use Rattle.frames.specs.Asked as search
 use Rattle.verdicts.specs.declared.Refusal.TheVariants as refusals
-use Rattle.store.specs.declared.Refusal.{Refusal}
 use Rattle.store.specs.declared.Refusal.TheVariants.{NotTerms, TooLarge, EquationsFull, ScratchShort}
 use Rattle.store.specs.declared.entry.Entry.{Entry}
 use Rattle.store.specs.Entries.{cells_of, Sound}
-use Rattle.store.specs.Judged.{judged_size, judged_terms, judged, judged_goals, judged_question, judged_variable}
+use Rattle.store.specs.Judged.{judged_terms, judged, judged_goals, judged_question}
 use Rattle.store.proofs.Loading.{sound_of}
 
 -- an equation that is not refused

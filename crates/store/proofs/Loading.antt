@@ -1,18 +1,19 @@
 -- The standing equations, one after another among the cells of a search.
-use Rattle.std.proofs.Common.{◌≡◌, ℕ, zero, suc, ◌+◌, ◌-◌, ◌*◌, ◌<◌, ◌≤◌, Bool, true, false, cond, ◌&&◌, eqb, leb, List, [], ◌∷◌, ◌++◌, map, length, get_or, take, drop, set, is_some, Some, None, All, Option, sym, refl, ap, ◌∙◌, subst, ap₂, arith}
+use Rattle.std.proofs.Common.{◌≡◌, ℕ, ◌+◌, ◌-◌, ◌*◌, ◌<◌, ◌≤◌, true, cond, eqb, leb, List, [], ◌∷◌, ◌++◌, map, length, get_or, take, drop, set, is_some, Some, None, All, Option, sym, refl, ap, ◌∙◌, subst, ap₂, arith}
+use Rattle.std.proofs.lemmas.List.Elements.{All-head, All-tail}
 use Rattle.std.specs.List.{flat_map}
 use Rattle.std.proofs.lemmas.List.{append_assoc, append-nil, length-append, length-take-le, drop_at, drop-drop, get_or-take, take_more, take_more_set, flat_map_more}
 use Rattle.std.proofs.lemmas.List.Elements.{All-from_all_within, All-take}
 use Rattle.std.proofs.lemmas.Bool.{and_parts, and_from, eqb-true, leb-true, le-leb, eq-eqb, cond-true}
 use Rattle.terms.specs.declared.Cell.{Cell}
-use Rattle.terms.specs.Shape.{skip, nothing_left, second_term, two_terms, goals, all_low}
+use Rattle.terms.specs.Shape.{skip, nothing_left, second_term, two_terms, all_low}
 use Rattle.terms.proofs.Laws.{skip_more, goals_read}
 use Rattle.typing.specs.Terms.{Term, none, more, Equation, Eqs}
 use Rattle.trees.specs.Terms.{EqsBelow}
 use Rattle.graphs.specs.Cells.{all_fit}
 use Rattle.graphs.specs.Flat.{flat, Stands}
 use Rattle.graphs.specs.Whole.{Whole}
-use Rattle.graphs.proofs.Spelt.{whole-terms}
+use Rattle.graphs.proofs.Spelt.{whole_terms}
 use Rattle.graphs.proofs.Wholes.{whole_append}
 use Rattle.unification.specs.declared.Equation as places
 use Rattle.unification.specs.Several.{SpeltAt}
@@ -100,12 +101,12 @@ pub loaded_few : (es : List Entry) → All Sound es → length (flat_map cells_o
 loaded_few [] h = omega arith
 loaded_few (e ∷ es) h =
     let n = length-append (cells_of e) (flat_map cells_of es) in
-    let l = entry_length e h.0 in let s = (parts e h.0).small in let r = loaded_few es h.1 in omega arith
+    let a = All-head Sound e es h in let l = entry_length e a in let s = (parts e a).small in let r = loaded_few es (All-tail Sound e es h) in omega arith
 
 -- the equations that the entries spell
 pub equations_of : (es : List Entry) → All Sound es → (E : Eqs) × Spelt E (map cells_of es)
 equations_of [] h = ([], refl)
-equations_of (e ∷ es) h = let p = spells e h.0 in let r = equations_of es h.1 in (p.0 ∷ r.0, ap₂ ◌∷◌ p.1 r.1)
+equations_of (e ∷ es) h = let p = spells e (All-head Sound e es h) in let r = equations_of es (All-tail Sound e es h) in (p.0 ∷ r.0, ap₂ ◌∷◌ p.1 r.1)
 
 first_of : (x y : List Cell) (xs ys : List (List Cell)) → x ∷ xs ≡ y ∷ ys → (x ≡ y) × (xs ≡ ys)
 first_of x y xs ys e = (ap (λ zs. get_or zs 0 []) e, ap (drop 1) e)
@@ -115,19 +116,19 @@ module _ (e : Entry) (q : Equation) (rest pre post : List Cell) (s : spell_equat
   abbrev behind : List Cell
   behind = (cells_of e ++ rest) ++ post
 
-  open-left : drop (length pre) (pre ++ behind) ≡ flat q.left ++ (flat q.right ++ (rest ++ post))
-  open-left =
+  open_left : drop (length pre) (pre ++ behind) ≡ flat q.left ++ (flat q.right ++ (rest ++ post))
+  open_left =
       drop_at pre behind (length pre) refl
       ∙ (append_assoc (cells_of e) rest post ∙ (ap (λ xs. xs ++ (rest ++ post)) (sym s) ∙ append_assoc (flat q.left) (flat q.right) (rest ++ post)))
 
-  left-stands : Stands (pre ++ behind) (length pre) q.left
-  left-stands = (flat q.right ++ (rest ++ post), open-left)
+  left_stands : Stands (pre ++ behind) (length pre) q.left
+  left_stands = (flat q.right ++ (rest ++ post), open_left)
 
-  right-stands : Stands (pre ++ behind) (length pre + e.second) q.right
-  right-stands = (
+  right_stands : Stands (pre ++ behind) (length pre + e.second) q.right
+  right_stands = (
     rest ++ post,
     sym (drop-drop e.second (length pre) (pre ++ behind))
-        ∙ (ap (drop e.second) open-left ∙ drop_at (flat q.left) (flat q.right ++ (rest ++ post)) e.second (sym n)),
+        ∙ (ap (drop e.second) open_left ∙ drop_at (flat q.left) (flat q.right ++ (rest ++ post)) e.second (sym n)),
   )
 
 pub spelt_at : (es : List Entry) → All Sound es → (E : Eqs) → Spelt E (map cells_of es) → (pre post : List Cell)
@@ -137,21 +138,21 @@ spelt_at [] h (q ∷ E) s pre post = let z = ap length s in absurd (omega arith)
 spelt_at (e ∷ es) h [] s pre post = let z = ap length s in absurd (omega arith)
 spelt_at (e ∷ es) h (q ∷ E) s pre post =
     let f = first_of _ _ _ _ s in
-    let n = second_place e h.0 q f.0 in
+    let n = second_place e (All-head Sound e es h) q f.0 in
     let rest = flat_map cells_of es in
     let k : length (pre ++ cells_of e) ≡ length pre + length (cells_of e) = length-append pre (cells_of e) in
     let m : (pre ++ cells_of e) ++ (rest ++ post) ≡ pre ++ ((cells_of e ++ rest) ++ post) = append_assoc pre (cells_of e) (rest ++ post) ∙ ap (λ xs. pre ++ xs) (sym (append_assoc (cells_of e) rest post)) in (
-      left-stands e q rest pre post f.0 n,
-      right-stands e q rest pre post f.0 n,
+      left_stands e q rest pre post f.0 n,
+      right_stands e q rest pre post f.0 n,
       subst (λ cs. SpeltAt cs (places_from (length pre + length (cells_of e)) es) E) m
-          (subst (λ i. SpeltAt ((pre ++ cells_of e) ++ (rest ++ post)) (places_from i es) E) k (spelt_at es h.1 E f.1 (pre ++ cells_of e) post)),
+          (subst (λ i. SpeltAt ((pre ++ cells_of e) ++ (rest ++ post)) (places_from i es) E) k (spelt_at es (All-tail Sound e es h) E f.1 (pre ++ cells_of e) post)),
     )
 
 whole_term : (t : Term) → Whole (flat t)
-whole_term t = subst Whole (append-nil (flat t)) (whole-terms (more t none))
+whole_term t = subst Whole (append-nil (flat t)) (whole_terms (more t none))
 
 pub loaded_whole : (es : List Entry) (E : Eqs) → Spelt E (map cells_of es) → Whole (flat_map cells_of es)
-loaded_whole [] E s = whole-terms none
+loaded_whole [] E s = whole_terms none
 loaded_whole (e ∷ es) [] s = let z = ap length s in absurd (omega arith)
 loaded_whole (e ∷ es) (q ∷ E) s =
     let f = first_of _ _ _ _ s in
@@ -162,7 +163,7 @@ equations_below es h [] s = tt
 equations_below [] h (q ∷ E) s = let z = ap length s in absurd (omega arith)
 equations_below (e ∷ es) h (q ∷ E) s =
     let f = first_of _ _ _ _ s in
-    (equation_below q (ap all_low f.0 ∙ (parts e h.0).low), equations_below es h.1 E f.1)
+    (equation_below q (ap all_low f.0 ∙ (parts e (All-head Sound e es h)).low), equations_below es (All-tail Sound e es h) E f.1)
 
 pub standing_sound : (es : List Entry) (n : ℕ) → n ≤ length es → ((k : ℕ) (d : Entry) → k < n → Sound (get_or es k d)) → All Sound (take n es)
 standing_sound es n h f =

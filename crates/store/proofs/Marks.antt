@@ -1,11 +1,12 @@
 -- What each call hands on: few entries, each an equation, and marks that rise and never pass the entries.
-use Rattle.std.proofs.Common.{◌≡◌, ℕ, zero, suc, ◌+◌, ◌-◌, ◌<◌, ◌≤◌, true, ◌⊎◌, List, [], ◌∷◌, ◌++◌, map, length, get_or, take, drop, Some, None, Ok, Err, All, Option, Result, sym, refl, ap, ◌∙◌, subst, ap₂, inl, inr, ⊎_elim, arith}
+use Rattle.std.proofs.Common.{◌≡◌, ℕ, ◌+◌, ◌-◌, ◌<◌, ◌≤◌, true, List, [], ◌∷◌, ◌++◌, map, length, get_or, take, drop, Some, None, Ok, Err, All, Option, Result, sym, refl, ap, ◌∙◌, subst, ap₂, ⊎_elim, arith}
+use Rattle.std.proofs.lemmas.List.Elements.{All-nil, All-head, All-tail}
 use Rattle.std.proofs.lemmas.List.{length_push, length-take-le, get_or_append_left, get_or_push, get_or-take}
 use Rattle.std.proofs.lemmas.List.Elements.{All-push, All-take}
 use Rattle.std.proofs.lemmas.Bool.{cases_eq}
 use Rattle.terms.specs.declared.Cell.{Cell}
 use Rattle.terms.specs.Shape.{two_terms, all_low}
-use Rattle.typing.specs.Terms.{Equation, Eqs, Signature}
+use Rattle.typing.specs.Terms.{Eqs, Signature}
 use Rattle.trees.specs.Terms.{EqsBelow}
 use Rattle.unification.specs.declared.Outcome.{Outcome}
 use Rattle.programs.specs.Spelling.{spell_equation}
@@ -30,7 +31,7 @@ pub record Well (m : Model) : Type 0 where
   pub within : (k : ℕ) → k < length m.marks → get_or m.marks k 0 ≤ length m.entries
 
 pub well_opened : Well opened
-well_opened = record { proper = tt; few = omega arith; shallow = omega arith; rising = λ i j p h. omega arith; within = λ k h. omega arith }
+well_opened = record { proper = All-nil Proper; few = omega arith; shallow = omega arith; rising = λ i j p h. omega arith; within = λ k h. omega arith }
 
 well_entry : (m : Model) (cells : List Cell) → Proper cells → length m.entries < 16 → Well m → Well (with_entry m cells)
 well_entry m cells e h w =
@@ -117,9 +118,10 @@ ended_well number m t (Some r) n m' f s w = subst Well (sym s.2) w
 pub entries_spell : (es : List (List Cell)) → All Proper es → (E : Eqs) × Spelt E es × EqsBelow 32 E
 entries_spell [] h = ([], refl, tt)
 entries_spell (cells ∷ es) h =
-    let p = parse_equation h.0.0 cells h.0.1 in
-    let r = entries_spell es h.1 in
-    (p.0 ∷ r.0, ap₂ ◌∷◌ (sym p.1) r.1, (equation_below p.0 (ap all_low (sym p.1) ∙ h.0.2), r.2))
+    let a = All-head Proper cells es h in
+    let p = parse_equation a.0 cells a.1 in
+    let r = entries_spell es (All-tail Proper cells es h) in
+    (p.0 ∷ r.0, ap₂ ◌∷◌ (sym p.1) r.1, (equation_below p.0 (ap all_low (sym p.1) ∙ a.2), r.2))
 
 -- and no others
 pub spelt_only : (E F : Eqs) → map spell_equation E ≡ map spell_equation F → E ≡ F

@@ -1,5 +1,5 @@
 -- What the replies say of the equations that stand.
-use Rattle.std.proofs.Common.{◌≡◌, ℕ, ◌<◌, ◌≤◌, Bool, true, false, cond, ◌||◌, ltb, List, [], ◌∷◌, ◌++◌, map, length, Some, None, Ok, Err, Option, Result, sym, refl, ap, ◌∙◌, subst, ap₂, arith}
+use Rattle.std.proofs.Common.{◌≡◌, ℕ, Bool, true, false, cond, ◌||◌, ltb, List, [], ◌∷◌, ◌++◌, length, Some, None, Ok, Err, Option, Result, sym, refl, ap, ◌∙◌, subst, ap₂, arith}
 use Rattle.std.proofs.lemmas.List.{map_push}
 use Rattle.terms.specs.declared.Cell.{Cell}
 use Rattle.typing.specs.Terms.{Subst, Equation, Eqs, KTerm, Signature, Unifies, Fits}
@@ -16,11 +16,11 @@ use Rattle.verdicts.specs.declared.Refusal as search
 use Rattle.verdicts.specs.declared.Answer.{Answer}
 use Rattle.frames.specs.Asked.{Answered, Proven}
 use Rattle.store.specs.declared.Refusal.{Refusal}
-use Rattle.store.specs.declared.Refusal.TheVariants.{NotTerms, TooLarge, NoVariable, NotSolved, ScratchShort, OutputShort}
+use Rattle.store.specs.declared.Refusal.TheVariants.{TooLarge, NoVariable, NotSolved, ScratchShort}
 use Rattle.store.specs.Judged.{judged, judged_goals, judged_question, judged_variable}
 use Rattle.terms.specs.Shape.{goals, all_low}
-use Rattle.store.specs.Model.{Model, with_entry}
-use Rattle.store.specs.Calls.{Spelt, Told, EnteredBy, answer_of, Inferred, AskedWith, AskedUnder, AskedBy, WroteOut, Shown, ReadUnder, ReadBy}
+use Rattle.store.specs.Model.{Model}
+use Rattle.store.specs.Calls.{Spelt, Told, EnteredBy, answer_of, AskedWith, AskedUnder, AskedBy, WroteOut, ReadUnder, ReadBy}
 use Rattle.store.specs.History.{Fixed, Replied}
 use Rattle.store.proofs.Judging.{accepted}
 use Rattle.store.proofs.Marks.{spelt_only}
@@ -47,15 +47,15 @@ enter_says kind m E s cells pairs frames (Ok p) i r m' b o k =
     (e, q.1, ((every_order kind (E ++ (e ∷ []))).comes_when (named o)).1 means, means)
 
 module _ (f : Fixed) (m : Model) (E : Eqs) (s : Spelt E m.entries) (question : List Cell) (before after : List ℕ) (r : Result Answer Refusal) (a : Answer) (is : r ≡ Ok a) where
-  told-ok : (told : Result Answer search.Refusal) → r ≡ answer_of told → told ≡ Ok a
-  told-ok (Ok b) e = let z : ◌≡◌ {A = Result Answer Refusal} (Ok b) (Ok a) = sym e ∙ is in let y : b ≡ a = cc in ap Ok y
-  told-ok (Err x) e = err_ok r _ a e is
+  told_ok : (told : Result Answer search.Refusal) → r ≡ answer_of told → told ≡ Ok a
+  told_ok (Ok b) e = let z : ◌≡◌ {A = Result Answer Refusal} (Ok b) (Ok a) = sym e ∙ is in let y : b ≡ a = cc in ap Ok y
+  told_ok (Err x) e = err_ok r _ a e is
 
-  with-path : (b : Bool) → ((θ : Subst) × Unifies θ E) → AskedWith b f.lists f.kind f.limit f.allowance question m.entries before after r → Replied f E question before after a
-  with-path true u w = err_ok r _ a w.0 is
-  with-path false u i =
+  with_path : (b : Bool) → ((θ : Subst) × Unifies θ E) → AskedWith b f.lists f.kind f.limit f.allowance question m.entries before after r → Replied f E question before after a
+  with_path true u w = err_ok r _ a w.0 is
+  with_path false u i =
       let same : i.equations ≡ E = spelt_only i.equations E (i.spelt ∙ sym s) in
-      let t = told-ok i.told i.is in
+      let t = told_ok i.told i.is in
       at i.equations same i.told t i.answered i.proven
     where
       at : (F : Eqs) → F ≡ E → (told : Result Answer search.Refusal) → told ≡ Ok a → (w : Answered f.lists f.kind f.limit f.allowance question F before after told)
@@ -67,28 +67,28 @@ module _ (f : Fixed) (m : Model) (E : Eqs) (s : Spelt E m.entries) (question : L
           record { alike = u; answered = v.0; proven = v.1 }
 
   under : (o : Outcome) → Told f.kind m.entries o → AskedUnder o f.lists f.kind f.limit f.allowance question m.entries before after r → Replied f E question before after a
-  under Solved t w = with-path (ltb (length before) 32) (told_means f.kind m.entries E Solved s t) w
+  under Solved t w = with_path (ltb (length before) 32) (told_means f.kind m.entries E Solved s t) w
   under False t w = err_ok r _ a w.0 is
   under Wrong t w = err_ok r _ a w.0 is
 
-  pub ask-says : (j : Option Refusal) → AskedBy j f.lists f.kind f.limit f.allowance question m.entries before after r → Replied f E question before after a
-  ask-says (Some x) w = err_ok r x a w.0 is
-  ask-says None w = under w.0 w.1 w.2
+  pub ask_says : (j : Option Refusal) → AskedBy j f.lists f.kind f.limit f.allowance question m.entries before after r → Replied f E question before after a
+  ask_says (Some x) w = err_ok r x a w.0 is
+  ask_says None w = under w.0 w.1 w.2
 
 module _ (kind : Signature) (m : Model) (E : Eqs) (s : Spelt E m.entries) (variable : ℕ) (before after : List Cell) (r : Result ℕ Refusal) (n : ℕ) (is : r ≡ Ok n) (θ : Subst) (reads : Reads θ E) where
-  under-read : (o : Outcome) → Told kind m.entries o → ReadUnder o kind m.entries variable before after r → WroteOut (flat (θ variable)) before (Ok n) after
-  under-read Solved t w =
+  under_read : (o : Outcome) → Told kind m.entries o → ReadUnder o kind m.entries variable before after r → WroteOut (flat (θ variable)) before (Ok n) after
+  under_read Solved t w =
       let same : w.equations ≡ E = spelt_only w.equations E (w.spelt ∙ sym s) in
       let same' : t.0 ≡ E = spelt_only t.0 E (t.1 ∙ sym s) in
       let one = ((every_order kind E).reads (subst (λ F. ComesTo kind F (named Solved)) same' t.2)).2 in
       let v : w.reading variable ≡ θ variable = one w.reading (subst (Reads w.reading) same w.reads) variable ∙ sym (one θ reads variable) in
       subst (λ u. WroteOut (flat u) before (Ok n) after) v (subst (λ q. WroteOut (flat (w.reading variable)) before q after) is w.wrote)
-  under-read False t w = err_ok r _ n w.0 is
-  under-read Wrong t w = err_ok r _ n w.0 is
+  under_read False t w = err_ok r _ n w.0 is
+  under_read Wrong t w = err_ok r _ n w.0 is
 
-  pub read-says : (j : Option Refusal) → ReadBy j kind m.entries variable before after r → WroteOut (flat (θ variable)) before (Ok n) after
-  read-says (Some x) w = err_ok r x n w.0 is
-  read-says None w = under-read w.0 w.1 w.2
+  pub read_says : (j : Option Refusal) → ReadBy j kind m.entries variable before after r → WroteOut (flat (θ variable)) before (Ok n) after
+  read_says (Some x) w = err_ok r x n w.0 is
+  read_says None w = under_read w.0 w.1 w.2
 
 -- A refusal for equations that are not solved comes only of them.
 
@@ -136,18 +136,18 @@ answer_other (Ok a) r e k = let z : ◌≡◌ {A = ℕ} 0 1 = cc in omega arith
 answer_other (Err x) r e k = let z : ◌≡◌ {A = ℕ} 0 1 = cc in omega arith
 
 module _ (f : Fixed) (m : Model) (E : Eqs) (s : Spelt E m.entries) (question : List Cell) (before after : List ℕ) (r : Result Answer Refusal) (is : r ≡ Err NotSolved) where
-  unasked-with : (b : Bool) → AskedWith b f.lists f.kind f.limit f.allowance question m.entries before after r → ⊥
-  unasked-with true w = let e = w.0 in let z : ◌≡◌ {A = ℕ} 0 1 = cc in omega arith
-  unasked-with false w = answer_other w.told r w.is is
+  unasked_with : (b : Bool) → AskedWith b f.lists f.kind f.limit f.allowance question m.entries before after r → ⊥
+  unasked_with true w = let e = w.0 in let z : ◌≡◌ {A = ℕ} 0 1 = cc in omega arith
+  unasked_with false w = answer_other w.told r w.is is
 
   unasked : (o : Outcome) → Told f.kind m.entries o → AskedUnder o f.lists f.kind f.limit f.allowance question m.entries before after r → ¬ ((θ : Subst) × Unifies θ E)
-  unasked Solved t w = absurd (unasked-with (ltb (length before) 32) w)
+  unasked Solved t w = absurd (unasked_with (ltb (length before) 32) w)
   unasked False t w = not_solved f.kind m.entries E False s t (λ e. let z : ◌≡◌ {A = ℕ} 0 1 = cc in omega arith)
   unasked Wrong t w = not_solved f.kind m.entries E Wrong s t (λ e. let z : ◌≡◌ {A = ℕ} 0 1 = cc in omega arith)
 
-  pub ask-unsolved : (j : Option Refusal) → judged_question question f.pairs f.frames ≡ j → AskedBy j f.lists f.kind f.limit f.allowance question m.entries before after r → ¬ ((θ : Subst) × Unifies θ E)
-  ask-unsolved (Some x) e w = other r x (question_other question f.pairs f.frames x e) w.0 is
-  ask-unsolved None e w = unasked w.0 w.1 w.2
+  pub ask_unsolved : (j : Option Refusal) → judged_question question f.pairs f.frames ≡ j → AskedBy j f.lists f.kind f.limit f.allowance question m.entries before after r → ¬ ((θ : Subst) × Unifies θ E)
+  ask_unsolved (Some x) e w = other r x (question_other question f.pairs f.frames x e) w.0 is
+  ask_unsolved None e w = unasked w.0 w.1 w.2
 
 module _ (f : Fixed) (m : Model) (E : Eqs) (s : Spelt E m.entries) (variable : ℕ) (before after : List Cell) (r : Result ℕ Refusal) (is : r ≡ Err NotSolved) where
   unwritten : (xs : List Cell) (q : Result ℕ Refusal) → q ≡ Err NotSolved → WroteOut xs before q after → ⊥
@@ -159,6 +159,6 @@ module _ (f : Fixed) (m : Model) (E : Eqs) (s : Spelt E m.entries) (variable : �
   unread False t w = not_solved f.kind m.entries E False s t (λ e. let z : ◌≡◌ {A = ℕ} 0 1 = cc in omega arith)
   unread Wrong t w = not_solved f.kind m.entries E Wrong s t (λ e. let z : ◌≡◌ {A = ℕ} 0 1 = cc in omega arith)
 
-  pub read-unsolved : (j : Option Refusal) → judged_variable variable f.pairs f.frames ≡ j → ReadBy j f.kind m.entries variable before after r → ¬ ((θ : Subst) × Unifies θ E)
-  read-unsolved (Some x) e w = other r x (variable_other variable f.pairs f.frames x e) w.0 is
-  read-unsolved None e w = unread w.0 w.1 w.2
+  pub read_unsolved : (j : Option Refusal) → judged_variable variable f.pairs f.frames ≡ j → ReadBy j f.kind m.entries variable before after r → ¬ ((θ : Subst) × Unifies θ E)
+  read_unsolved (Some x) e w = other r x (variable_other variable f.pairs f.frames x e) w.0 is
+  read_unsolved None e w = unread w.0 w.1 w.2

@@ -1,12 +1,12 @@
 -- The outcome of the standing equations, settled together.
-use Rattle.std.proofs.Common.{◌≡◌, ℕ, ◌+◌, ◌*◌, ◌<◌, ◌≤◌, List, [], ◌∷◌, ◌++◌, map, length, drop, All, sym, refl, ap, ◌∙◌, subst, arith}
+use Rattle.std.proofs.Common.{◌≡◌, ℕ, ◌≤◌, List, [], map, length, drop, All, sym, ap, ◌∙◌, subst, arith}
 use Rattle.std.specs.List.{flat_map}
 use Rattle.std.proofs.lemmas.List.{append-nil}
 use Rattle.terms.specs.declared.Cell.{Cell}
 use Rattle.typing.specs.Terms.{Eqs, Signature}
-use Rattle.typing.specs.Rules.{Means, ComesTo}
+use Rattle.typing.specs.Rules.{Means}
 use Rattle.typing.proofs.Orders.{every_order}
-use Rattle.graphs.specs.Links.{restore, roots, Logged}
+use Rattle.graphs.specs.Links.{restore, roots}
 use Rattle.unification.specs.declared.Outcome.{Outcome}
 use Rattle.unification.specs.declared.Outcome.TheVariants.{Solved, False, Wrong}
 use Rattle.unification.specs.declared.Equation.{Equation}
@@ -33,17 +33,17 @@ module _ (kind : Signature) (es : List Entry) (sound : All Sound es) (few : leng
   small : length loaded ≤ 1568
   small = let n = loaded_few es sound in omega arith
 
-  none-stand : (E : Eqs) → Spelt E (map cells_of es) → Standing kind loaded (roots 0 2624) []
-  none-stand E s = standing_grow kind [] loaded (roots 0 2624) [] small (loaded_whole es E s) (standing_start kind)
+  none_stand : (E : Eqs) → Spelt E (map cells_of es) → Standing kind loaded (roots 0 2624) []
+  none_stand E s = standing_grow kind [] loaded (roots 0 2624) [] small (loaded_whole es E s) (standing_start kind)
 
   at_places : (E : Eqs) → Spelt E (map cells_of es) → SpeltAt loaded (places_from 0 es) E
   at_places E s = subst (λ cs. SpeltAt cs (places_from 0 es) E) (append-nil loaded) (spelt_at es sound E s [] [])
 
-  stood-at : (l' : List ℕ) (o : Outcome) → UnifiedAll kind loaded (roots 0 2624) (places_from 0 es) l' o → Stood kind (map cells_of es) loaded l' o
-  stood-at l' o u =
+  stood_at : (l' : List ℕ) (o : Outcome) → UnifiedAll kind loaded (roots 0 2624) (places_from 0 es) l' o → Stood kind (map cells_of es) loaded l' o
+  stood_at l' o u =
       let p = equations_of es sound in
       let E = p.0 in let s = p.1 in
-      let w = u [] E (none-stand E s) (at_places E s) in
+      let w = u [] E (none_stand E s) (at_places E s) in
       record {
         equations = E;
         spelt = s;
@@ -55,4 +55,4 @@ module _ (kind : Signature) (es : List Entry) (sound : All Sound es) (few : leng
   pub stood : (cells : List Cell) (l l' : List ℕ) (places : List Equation) (o : Outcome) → cells ≡ loaded → l ≡ roots 0 2624 → places ≡ places_from 0 es → UnifiedAll kind cells l places l' o → Stood kind (map cells_of es) cells l' o
   stood cells l l' places o c e p u =
       subst (λ cs. Stood kind (map cells_of es) cs l' o) (sym c)
-      (stood-at l' o (subst (λ ps. UnifiedAll kind loaded (roots 0 2624) ps l' o) p (subst (λ k. UnifiedAll kind loaded k places l' o) e (subst (λ cs. UnifiedAll kind cs l places l' o) c u))))
+      (stood_at l' o (subst (λ ps. UnifiedAll kind loaded (roots 0 2624) ps l' o) p (subst (λ k. UnifiedAll kind loaded k places l' o) e (subst (λ cs. UnifiedAll kind cs l places l' o) c u))))

@@ -1,5 +1,5 @@
 -- Histories of calls, and what holds after every one.
-use Rattle.std.specs.Prelude.{◌≡◌, ℕ, ◌+◌, ◌<◌, ◌≤◌, List, [], ◌∷◌, ◌++◌, length, take, drop, Ok, Err, Option, Result, slice_index}
+use Rattle.std.specs.Prelude.{◌≡◌, ℕ, ◌<◌, ◌≤◌, List, [], ◌∷◌, ◌++◌, length, take, drop, Ok, Err, Option, Result, slice_index}
 use Rattle.terms.specs.declared.Cell.{Cell}
 use Rattle.typing.specs.Terms.{Subst, Equation, Eqs, Signature, Unifies}
 use Rattle.typing.specs.Rules.{InEveryOrder, Means, ComesTo, Reads}

@@ -1,5 +1,5 @@
 -- A store's model: the standing equations, each by its cells, and the open marks, each a count of equations.
-use Rattle.std.specs.Prelude.{◌≡◌, ℕ, ◌-◌, ◌<◌, ◌≤◌, List, [], ◌∷◌, ◌++◌, map, length, take, slice_index}
+use Rattle.std.specs.Prelude.{ℕ, ◌-◌, List, [], ◌∷◌, ◌++◌, map, length, take, slice_index}
 use Rattle.terms.specs.declared.Cell.{Cell}
 use Rattle.store.specs.declared.entry.Entry.{Entry}
 use Rattle.store.specs.declared.table.Table.{Table}

@@ -1,4 +1,6 @@
 // A constraint store: equations between terms that stand together, marks to take them back to, and questions under them.
+#![tactic(auto)]
+
 ghost use Rattle.std.specs.Prelude.{◌≡◌};
 ghost use Rattle.store.specs.Numbers.{number_of};
 

@@ -8,7 +8,7 @@ use crate::Refusal;
 use crate::call::{Call, Reply};
 use crate::store::Store;
 use crate::token::{Slip, Token};
-use clauses::Source;
+use clauses::ProgramSource;
 use frames::Frame;
 use std::alloc::{AllocError, Global};
 use terms::Cell;
@@ -47,7 +47,7 @@ fn refusal(r: Result<(), (Token, Refusal)>) -> Option<Refusal>
 }
 
 // One call, with its reply.
-fn step<P: Source, G: Signature>(
+fn step<P: ProgramSource, G: Signature>(
     store: &mut Store<P, G>,
     call: Call,
     pairs: &mut [Pair],
@@ -69,7 +69,7 @@ fn step<P: Source, G: Signature>(
 }
 
 // Makes the calls on a store; the replies go to the slice, in order.
-pub fn run<P: Source, G: Signature>(
+pub fn run<P: ProgramSource, G: Signature>(
     store: &mut Store<P, G>,
     calls: &[Call],
     replies: &mut [Reply],
@@ -91,7 +91,7 @@ pub fn run<P: Source, G: Signature>(
 }
 
 // Opens a store and makes the calls. After each of them the store holds what it promises. Memory is taken when the store is opened, and only then.
-pub fn replay<P: Source + Drop, G: Signature + Drop>(
+pub fn replay<P: ProgramSource + Drop, G: Signature + Drop>(
     heap: Global,
     settings: Settings,
     number: u16,

@@ -11,7 +11,7 @@ ghost use Rattle.store.specs.Solved.{Stood};
 use crate::Refusal;
 use crate::solver::Solver;
 use crate::table::Table;
-use clauses::Source;
+use clauses::ProgramSource;
 use frames::Frame;
 use resolution::search::Search;
 use resolution::search::ask::PATH;
@@ -72,7 +72,7 @@ impl Solver {
     }
 
     // The answer to a question under the standing equations, after what is handed in has been judged.
-    pub(crate) fn ask<P: Source, G: Signature>(
+    pub(crate) fn ask<P: ProgramSource, G: Signature>(
         &mut self,
         table: &Table,
         source: &P,

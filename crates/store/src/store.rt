@@ -8,7 +8,7 @@ use crate::solver::Solver;
 use crate::table::Table;
 use crate::token::{Slip, Token};
 use crate::{Refusal, judge};
-use clauses::Source;
+use clauses::ProgramSource;
 use frames::Frame;
 use std::alloc::{AllocError, Global};
 use terms::Cell;
@@ -31,7 +31,7 @@ pub struct Store<P, G> {
     pub(crate) solver: Solver,
 }
 
-impl<P: Source + Drop, G: Signature + Drop> Store<P, G> {
+impl<P: ProgramSource + Drop, G: Signature + Drop> Store<P, G> {
     // A store under this number, with nothing entered and no mark open. All memory is taken here.
     pub fn new(
         heap: Global,
@@ -54,7 +54,7 @@ impl<P: Source + Drop, G: Signature + Drop> Store<P, G> {
     }
 }
 
-impl<P: Source, G: Signature> Store<P, G> {
+impl<P: ProgramSource, G: Signature> Store<P, G> {
     // Adds an equation, given as the cells of its two sides, the second right after the first, and tells the outcome of all that stand.
     pub fn enter(
         &mut self,

@@ -1,5 +1,7 @@
 // Prints the replies of a store to lists of calls, a line for each: what was called, and the number that tells how it came out. An outcome is 0 solved,
 // 1 false, 2 wrong; a mark tells its depth, an ending 0, a question the uses of a path and 100 and more without one, a reading its cells; a refusal is its number after `refused`.
+#![tactic(auto)]
+
 use frames::Frame;
 use records::Records;
 use records::fact::Symbols;

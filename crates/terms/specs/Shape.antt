@@ -1,5 +1,5 @@
 -- Which cells spell terms and goal lists.
-use Rattle.std.specs.Prelude.{◌≡◌, ℕ, zero, suc, ◌+◌, ◌-◌, ◌<◌, ◌≤◌, Bool, true, false, cond, not, ◌&&◌, ◌||◌, List, [], ◌∷◌, length, drop, Some, None, Option, ◌==◌, nat_lt}
+use Rattle.std.specs.Prelude.{◌≡◌, ℕ, zero, suc, ◌+◌, ◌-◌, ◌≤◌, Bool, true, false, cond, not, ◌&&◌, ◌||◌, List, [], ◌∷◌, length, drop, Some, None, Option, ◌==◌, nat_lt}
 use Rattle.terms.specs.declared.Cell.{Cell}
 
 -- a cell of a term: a variable, a constant, or a function of 1 to 8 arguments; atoms, strings and symbols have numbers below 65,536

@@ -1,4 +1,6 @@
 // Terms in cells: what a cell is, which cells spell terms and goal lists, and the kinds of constants.
+#![tactic(auto)]
+
 pub mod check;
 pub mod signature;
 

@@ -1,5 +1,5 @@
-use Rattle.std.proofs.Common.{◌≡◌, ℕ, suc, ◌+◌, ◌↔◌, List, [], ◌∷◌, ◌++◌, sym, refl, ap, ◌∙◌, ap₂, arith}
-use Rattle.trees.specs.Terms.{Term, Terms, fun, none, more, arity, Subst, apply, applies, Eqs, ◌≈◌, Unifies, KTerm, KTerms, kfun, kmore, Signature, kinds, kinds*, Fits}
+use Rattle.std.proofs.Common.{◌≡◌, ℕ, ◌++◌, refl, ap, ap₂, arith}
+use Rattle.trees.specs.Terms.{Terms, fun, none, more, arity, Subst, applies, Eqs, Unifies, KTerm, KTerms, kfun, kmore, Signature, kinds*, Fits}
 use Rattle.trees.specs.Arguments.{pairs, ArgumentsLaw}
 
 unify_there : (ts us : Terms) (E : Eqs) (θ : Subst) → arity ts ≡ arity us → applies θ ts ≡ applies θ us → Unifies θ E → Unifies θ (pairs ts us ++ E)

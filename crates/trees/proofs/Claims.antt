@@ -1,15 +1,14 @@
-use Rattle.std.proofs.Common.{◌≡◌, ℕ, zero, suc, ◌+◌, ◌*◌, ◌<◌, ◌≤◌, ◌⊎◌, ◌↔◌, List, [], ◌∷◌, ◌++◌, length, sym, refl, ap, ◌∙◌, subst, ap₂, inl, inr, arith}
+use Rattle.std.proofs.Common.{◌≡◌, ℕ, ◌+◌, ◌≤◌, ◌↔◌, List, length, refl, ap, ◌∙◌, inl, inr, arith}
 use native.Mathlib.Decide.{dec_le}
-use Rattle.trees.specs.Terms.{Subst, Unifies, Eqs, EqsBelow, Solvable, Signature}
-use Rattle.trees.specs.Tree.{Goal, Program, Small, GoalsBelow, fresh, Tree, IsTree, Succeeds}
-use Rattle.trees.specs.Proofs.{Proof, ProofUnder, uses, path}
+use Rattle.trees.specs.Terms.{Subst, Unifies}
+use Rattle.trees.specs.Tree.{Succeeds}
+use Rattle.trees.specs.Proofs.{ProofUnder, uses, path}
 use Rattle.trees.specs.Verdicts.{NoWorse}
-use Rattle.trees.specs.Claims.{SoundComplete, HoldsIsProof, ToldIsBest, Question, TreeTheory, EveryTree}
+use Rattle.trees.specs.Claims.{SoundComplete, HoldsIsProof, ToldIsBest, TreeTheory, EveryTree}
 use Rattle.typing.proofs.Orders.{every_order}
-use Rattle.trees.proofs.Summaries
 use Rattle.trees.proofs.Splits.{uses_length}
 use Rattle.trees.proofs.Uniques.{one_tree, some_tree, one_verdict}
-use Rattle.trees.proofs.Lifting.{Met, sound, Held, complete}
+use Rattle.trees.proofs.Lifting.{sound, complete}
 
 pub sound_complete : SoundComplete
 sound_complete P kind limit gs E k t p small le lg s l r = (there, back)

@@ -1,21 +1,21 @@
 -- An outcome is one of the three at most: what unifies also fits
-use Rattle.std.proofs.Common.{◌≡◌, ℕ, List, [], ◌∷◌, sym, refl, ap, ◌∙◌, ap₂}
-use Rattle.trees.specs.Terms.{Term, Terms, var, con, fun, none, more, Subst, apply, applies, Eqs, Unifies, KTerm, base, kfun, kmore, KTerms, kinds, kinds*, Fits, Fitting, Solvable, Signature, Outcome, solved, false, wrong, OutcomeOf}
+use Rattle.std.proofs.Common.{◌≡◌, ℕ, [], ◌∷◌, sym, refl, ap, ◌∙◌, ap₂}
+use Rattle.trees.specs.Terms.{Term, Terms, var, con, fun, none, more, Subst, apply, applies, Eqs, Unifies, KTerm, base, kfun, kmore, kinds, kinds*, Fits, Fitting, Solvable, Signature, Outcome, solved, false, wrong, OutcomeOf}
 
 mutual
-  pub kinds-apply : (t : Term) (kind : Signature) (κ : ℕ → KTerm) (θ : Subst) → kinds kind κ (apply θ t) ≡ kinds kind (λ x. kinds kind κ (θ x)) t
-  kinds-apply (var x) kind κ θ = refl
-  kinds-apply (con f v) kind κ θ = refl
-  kinds-apply (fun s ts) kind κ θ = ap (kfun s) (kinds*-apply ts kind κ θ)
+  pub kinds_apply : (t : Term) (kind : Signature) (κ : ℕ → KTerm) (θ : Subst) → kinds kind κ (apply θ t) ≡ kinds kind (λ x. kinds kind κ (θ x)) t
+  kinds_apply (var x) kind κ θ = refl
+  kinds_apply (con f v) kind κ θ = refl
+  kinds_apply (fun s ts) kind κ θ = ap (kfun s) (kinds*_apply ts kind κ θ)
 
-  pub kinds*-apply : (ts : Terms) (kind : Signature) (κ : ℕ → KTerm) (θ : Subst) → kinds* kind κ (applies θ ts) ≡ kinds* kind (λ x. kinds kind κ (θ x)) ts
-  kinds*-apply none kind κ θ = refl
-  kinds*-apply (more t ts) kind κ θ = ap₂ kmore (kinds-apply t kind κ θ) (kinds*-apply ts kind κ θ)
+  pub kinds*_apply : (ts : Terms) (kind : Signature) (κ : ℕ → KTerm) (θ : Subst) → kinds* kind κ (applies θ ts) ≡ kinds* kind (λ x. kinds kind κ (θ x)) ts
+  kinds*_apply none kind κ θ = refl
+  kinds*_apply (more t ts) kind κ θ = ap₂ kmore (kinds_apply t kind κ θ) (kinds*_apply ts kind κ θ)
 
 pub fits_of : (E : Eqs) (kind : Signature) (κ : ℕ → KTerm) (θ : Subst) → Unifies θ E → Fits kind (λ x. kinds kind κ (θ x)) E
 fits_of [] kind κ θ u = tt
 fits_of (e ∷ E) kind κ θ u =
-    (sym (kinds-apply e.left kind κ θ) ∙ (ap (kinds kind κ) u.0 ∙ kinds-apply e.right kind κ θ), fits_of E kind κ θ u.1)
+    (sym (kinds_apply e.left kind κ θ) ∙ (ap (kinds kind κ) u.0 ∙ kinds_apply e.right kind κ θ), fits_of E kind κ θ u.1)
 
 pub fitting : (E : Eqs) (kind : Signature) → Solvable E → Fitting kind E
 fitting E kind s = ((λ x. kinds kind (λ y. base 0) (s.0 x)), fits_of E kind (λ y. base 0) s.0 s.1)

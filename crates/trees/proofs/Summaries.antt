@@ -1,10 +1,10 @@
-use Rattle.std.proofs.Common.{◌≡◌, ℕ, zero, suc, ◌+◌, ◌<◌, ◌≤◌, Bool, true, false, cond, ◌&&◌, ◌||◌, ltb, ◌⊎◌, ◌↔◌, List, [], ◌∷◌, ◌++◌, length, sym, refl, ap, ◌∙◌, subst, ap₂, inl, inr, ⊎_elim, append_assoc, append-nil, arith, length-append, ltb-false, ltb-true}
+use Rattle.std.proofs.Common.{◌≡◌, ℕ, zero, suc, ◌+◌, ◌<◌, ◌≤◌, Bool, true, false, cond, ◌&&◌, ◌||◌, ltb, ◌⊎◌, ◌↔◌, List, [], ◌∷◌, ◌++◌, length, sym, refl, ◌∙◌, subst, inl, inr, ⊎_elim, append_assoc, append-nil, arith, ltb-false, ltb-true}
 use mathlib.Core.Option.{Option, some, none}
 use native.Mathlib.Decide.{dec_lt}
 use Rattle.std.proofs.lemmas.Bool.Decides.{nat_tests}
 use Rattle.trees.specs.Tree.{Tree, Trees, success, failed, wrong, cut, dropped, branch, no_more, and, Succeeds, SucceedsAt, steps, steps_all}
-use Rattle.trees.specs.Verdicts.{Verdict, VerdictOf, SomeCut, SomeCutIn, AllWrong, AllWrongIn, NotAfter, NoWorse, Told}
-use Rattle.trees.specs.Summaries.{Summary, better, ◌⊕◌, nothing, tick, at_success, at_failed, at_cut, summary, summaries, Best, chosen, verdict_of, Summed, SummaryLaw}
+use Rattle.trees.specs.Verdicts.{VerdictOf, SomeCut, SomeCutIn, AllWrong, AllWrongIn, NotAfter, NoWorse}
+use Rattle.trees.specs.Summaries.{Summary, better, ◌⊕◌, nothing, summary, summaries, Best, chosen, Summed, SummaryLaw}
 
 -- the two ways of a choice
 data Way (p q : List ℕ) : Option (List ℕ) → Type 0 where
@@ -65,17 +65,17 @@ pub ⊕_nothing : (a : Summary) → a ⊕ nothing ≡ a
 
 -- edges
 mutual
-  edges-tree : (t : Tree) (r : List ℕ) → (summary r t).edges ≡ steps t
-  edges-tree success r = refl
-  edges-tree failed r = refl
-  edges-tree wrong r = refl
-  edges-tree cut r = refl
-  edges-tree (dropped t) r = let a = edges-tree t r in omega arith
-  edges-tree (branch ts) r = edges-trees ts r 0
+  edges_tree : (t : Tree) (r : List ℕ) → (summary r t).edges ≡ steps t
+  edges_tree success r = refl
+  edges_tree failed r = refl
+  edges_tree wrong r = refl
+  edges_tree cut r = refl
+  edges_tree (dropped t) r = let a = edges_tree t r in omega arith
+  edges_tree (branch ts) r = edges_trees ts r 0
 
-  edges-trees : (ts : Trees) (r : List ℕ) (i : ℕ) → (summaries r i ts).edges ≡ steps_all ts
-  edges-trees no_more r i = refl
-  edges-trees (and t ts) r i = let a = edges-tree t (r ++ (i ∷ [])) in let b = edges-trees ts r (suc i) in omega arith
+  edges_trees : (ts : Trees) (r : List ℕ) (i : ℕ) → (summaries r i ts).edges ≡ steps_all ts
+  edges_trees no_more r i = refl
+  edges_trees (and t ts) r i = let a = edges_tree t (r ++ (i ∷ [])) in let b = edges_trees ts r (suc i) in omega arith
 
 -- cut leaves, and leaves all wrong
 either : (a b : Bool) (A B : Type 0) → ((a ≡ true) ↔ A) → ((b ≡ true) ↔ B) → (a || b ≡ true) ↔ (A ⊎ B)
@@ -87,30 +87,30 @@ both true b A B h k = (λ e. (h.0 refl, k.0 e), λ e. k.1 e.1)
 both false b A B h k = (λ e. absurd (not_true e), λ e. h.1 e.0)
 
 mutual
-  cut-tree : (t : Tree) (r : List ℕ) → ((summary r t).any_cut ≡ true) ↔ SomeCut t
-  cut-tree success r = (λ e. not_true e, λ x. absurd x)
-  cut-tree failed r = (λ e. not_true e, λ x. absurd x)
-  cut-tree wrong r = (λ e. not_true e, λ x. absurd x)
-  cut-tree cut r = (λ e. tt, λ x. refl)
-  cut-tree (dropped t) r = cut-tree t r
-  cut-tree (branch ts) r = cut-trees ts r 0
+  cut_tree : (t : Tree) (r : List ℕ) → ((summary r t).any_cut ≡ true) ↔ SomeCut t
+  cut_tree success r = (λ e. not_true e, λ x. absurd x)
+  cut_tree failed r = (λ e. not_true e, λ x. absurd x)
+  cut_tree wrong r = (λ e. not_true e, λ x. absurd x)
+  cut_tree cut r = (λ e. tt, λ x. refl)
+  cut_tree (dropped t) r = cut_tree t r
+  cut_tree (branch ts) r = cut_trees ts r 0
 
-  cut-trees : (ts : Trees) (r : List ℕ) (i : ℕ) → ((summaries r i ts).any_cut ≡ true) ↔ SomeCutIn ts
-  cut-trees no_more r i = (λ e. not_true e, λ x. absurd x)
-  cut-trees (and t ts) r i = either (summary (r ++ (i ∷ [])) t).any_cut (summaries r (suc i) ts).any_cut (SomeCut t) (SomeCutIn ts) (cut-tree t (r ++ (i ∷ []))) (cut-trees ts r (suc i))
+  cut_trees : (ts : Trees) (r : List ℕ) (i : ℕ) → ((summaries r i ts).any_cut ≡ true) ↔ SomeCutIn ts
+  cut_trees no_more r i = (λ e. not_true e, λ x. absurd x)
+  cut_trees (and t ts) r i = either (summary (r ++ (i ∷ [])) t).any_cut (summaries r (suc i) ts).any_cut (SomeCut t) (SomeCutIn ts) (cut_tree t (r ++ (i ∷ []))) (cut_trees ts r (suc i))
 
 mutual
-  wrong-tree : (t : Tree) (r : List ℕ) → ((summary r t).all_wrong ≡ true) ↔ AllWrong t
-  wrong-tree success r = (λ e. not_true e, λ x. absurd x)
-  wrong-tree failed r = (λ e. not_true e, λ x. absurd x)
-  wrong-tree wrong r = (λ e. tt, λ x. refl)
-  wrong-tree cut r = (λ e. not_true e, λ x. absurd x)
-  wrong-tree (dropped t) r = wrong-tree t r
-  wrong-tree (branch ts) r = wrong-trees ts r 0
+  wrong_tree : (t : Tree) (r : List ℕ) → ((summary r t).all_wrong ≡ true) ↔ AllWrong t
+  wrong_tree success r = (λ e. not_true e, λ x. absurd x)
+  wrong_tree failed r = (λ e. not_true e, λ x. absurd x)
+  wrong_tree wrong r = (λ e. tt, λ x. refl)
+  wrong_tree cut r = (λ e. not_true e, λ x. absurd x)
+  wrong_tree (dropped t) r = wrong_tree t r
+  wrong_tree (branch ts) r = wrong_trees ts r 0
 
-  wrong-trees : (ts : Trees) (r : List ℕ) (i : ℕ) → ((summaries r i ts).all_wrong ≡ true) ↔ AllWrongIn ts
-  wrong-trees no_more r i = (λ e. tt, λ x. refl)
-  wrong-trees (and t ts) r i = both (summary (r ++ (i ∷ [])) t).all_wrong (summaries r (suc i) ts).all_wrong (AllWrong t) (AllWrongIn ts) (wrong-tree t (r ++ (i ∷ []))) (wrong-trees ts r (suc i))
+  wrong_trees : (ts : Trees) (r : List ℕ) (i : ℕ) → ((summaries r i ts).all_wrong ≡ true) ↔ AllWrongIn ts
+  wrong_trees no_more r i = (λ e. tt, λ x. refl)
+  wrong_trees (and t ts) r i = both (summary (r ++ (i ∷ [])) t).all_wrong (summaries r (suc i) ts).all_wrong (AllWrong t) (AllWrongIn ts) (wrong_tree t (r ++ (i ∷ []))) (wrong_trees ts r (suc i))
 
 -- the best path: of one set of paths and a later one
 longer : (p q : List ℕ) → NoWorse p q → length p ≤ length q
@@ -119,11 +119,11 @@ longer p q (inr h) = let e = h.0 in omega arith
 
 module _ {A B C : List ℕ → Type 0} (from : (p : List ℕ) → C p → A p ⊎ B p) (left : (p : List ℕ) → A p → C p) (right : (p : List ℕ) → B p → C p)
     (order : (p q : List ℕ) → A p → B q → NotAfter p q) where
-  best-both : (a b : Option (List ℕ)) → Best A a → Best B b → Best C (better a b)
-  best-both none none x y = λ p c. ⊎_elim (x p) (y p) (from p c)
-  best-both none (some q) x y = (right q y.0, λ r c. ⊎_elim (λ u. absurd (x r u)) (y.1 r) (from r c))
-  best-both (some p) none x y = (left p x.0, λ r c. ⊎_elim (x.1 r) (λ u. absurd (y r u)) (from r c))
-  best-both (some p) (some q) x y = go (better (some p) (some q)) (way p q)
+  best_both : (a b : Option (List ℕ)) → Best A a → Best B b → Best C (better a b)
+  best_both none none x y = λ p c. ⊎_elim (x p) (y p) (from p c)
+  best_both none (some q) x y = (right q y.0, λ r c. ⊎_elim (λ u. absurd (x r u)) (y.1 r) (from r c))
+  best_both (some p) none x y = (left p x.0, λ r c. ⊎_elim (x.1 r) (λ u. absurd (y r u)) (from r c))
+  best_both (some p) (some q) x y = go (better (some p) (some q)) (way p q)
     where
       go : (o : Option (List ℕ)) → Way p q o → Best C o
       go _ (later h) = (right q y.0, λ r c. ⊎_elim (λ u. let l = longer p r (x.1 r u) in inl (omega arith)) (y.1 r) (from r c))
@@ -178,24 +178,24 @@ ordered t ts r i p q a b =
     subst (λ x. NotAfter x q) (sym (a.1 ∙ append_assoc r (i ∷ []) a.0)) (subst (NotAfter (r ++ (i ∷ a.0))) (sym b.2) (before r i (suc i + b.0) a.0 b.1 (omega arith)))
 
 mutual
-  best-tree : (t : Tree) (r : List ℕ) → Best (Reach r t) (summary r t).best
-  best-tree success r = (([], sym (append-nil r), tt), λ p w. only r p w.0 w.1 w.2)
-  best-tree failed r = λ p w. w.2
-  best-tree wrong r = λ p w. w.2
-  best-tree cut r = λ p w. w.2
-  best-tree (dropped t) r = best-tree t r
-  best-tree (branch ts) r = best_iff (through ts r) (summaries r 0 ts).best (best-trees ts r 0)
+  best_tree : (t : Tree) (r : List ℕ) → Best (Reach r t) (summary r t).best
+  best_tree success r = (([], sym (append-nil r), tt), λ p w. only r p w.0 w.1 w.2)
+  best_tree failed r = λ p w. w.2
+  best_tree wrong r = λ p w. w.2
+  best_tree cut r = λ p w. w.2
+  best_tree (dropped t) r = best_tree t r
+  best_tree (branch ts) r = best_iff (through ts r) (summaries r 0 ts).best (best_trees ts r 0)
 
-  best-trees : (ts : Trees) (r : List ℕ) (i : ℕ) → Best (ReachAt r i ts) (summaries r i ts).best
-  best-trees no_more r i = λ p w. w.3
-  best-trees (and t ts) r i = best-both (parts t ts r i)
+  best_trees : (ts : Trees) (r : List ℕ) (i : ℕ) → Best (ReachAt r i ts) (summaries r i ts).best
+  best_trees no_more r i = λ p w. w.3
+  best_trees (and t ts) r i = best_both (parts t ts r i)
       (λ p w. (0, w.0, same_number r w.0 p i (i + 0) (omega arith) (w.1 ∙ append_assoc r (i ∷ []) w.0), w.2))
       (λ p w. (suc w.0, w.1, same_number r w.1 p (suc i + w.0) (i + suc w.0) (omega arith) w.2, w.3))
       (ordered t ts r i)
-      (summary (r ++ (i ∷ [])) t).best (summaries r (suc i) ts).best (best-tree t (r ++ (i ∷ []))) (best-trees ts r (suc i))
+      (summary (r ++ (i ∷ [])) t).best (summaries r (suc i) ts).best (best_tree t (r ++ (i ∷ []))) (best_trees ts r (suc i))
 
 pub best_right : (t : Tree) → Best (Succeeds t) (summary [] t).best
-best_right t = best_iff (λ p. (λ w. subst (Succeeds t) (sym w.1) w.2, λ w. (p, refl, w))) (summary [] t).best (best-tree t [])
+best_right t = best_iff (λ p. (λ w. subst (Succeeds t) (sym w.1) w.2, λ w. (p, refl, w))) (summary [] t).best (best_tree t [])
 
 verdict_right : (t : Tree) (o : Option (List ℕ)) (c w : Bool) → Best (Succeeds t) o → ((c ≡ true) ↔ SomeCut t) → ((w ≡ true) ↔ AllWrong t) → VerdictOf t (chosen o c w)
 verdict_right t (some p) c w b x y = (p, b.0)
@@ -205,11 +205,11 @@ verdict_right t none false false b x y = (λ s. b s.0 s.1, λ s. not_true (x.1 s
 
 pub summed : (t : Tree) → Summed t (summary [] t)
 summed t = record {
-  edges = edges-tree t [];
+  edges = edges_tree t [];
   best = best_right t;
-  any_cut = cut-tree t [];
-  all_wrong = wrong-tree t [];
-  verdict = verdict_right t (summary [] t).best (summary [] t).any_cut (summary [] t).all_wrong (best_right t) (cut-tree t []) (wrong-tree t []);
+  any_cut = cut_tree t [];
+  all_wrong = wrong_tree t [];
+  verdict = verdict_right t (summary [] t).best (summary [] t).any_cut (summary [] t).all_wrong (best_right t) (cut_tree t []) (wrong_tree t []);
 }
 
 pub summary_law : SummaryLaw

@@ -1,9 +1,9 @@
-use Rattle.std.proofs.Common.{◌≡◌, ℕ, zero, suc, ◌+◌, ◌<◌, ◌≤◌, Bool, true, List, [], ◌∷◌, sym, refl, ap, ◌∙◌, ap₂, arith}
-use Rattle.trees.specs.Terms.{Term, Terms, var, con, fun, none, more, Subst, apply, Eqs, Unifies, Solvable, Fitting, base}
-use Rattle.trees.specs.Tree.{Goal, Clause, Tree, Trees, success, failed, wrong, cut, branch, and, no_more, IsTree, is-success, is-failed, is_cut, is-dropped, is-branch, by-none, by-wrong, by-false, by-solved, with_head, steps}
+use Rattle.std.proofs.Common.{◌≡◌, ℕ, zero, suc, ◌+◌, true, [], ◌∷◌, refl, ap, arith}
+use Rattle.trees.specs.Terms.{Term, var, fun, none, more, Subst, apply, Eqs, Unifies, Solvable, Fitting, base}
+use Rattle.trees.specs.Tree.{Tree, success, failed, wrong, cut, branch, and, no_more, IsTree, is_success, is_failed, is_cut, is_branch, by_none, by_wrong, by_false, by_solved, with_head, steps}
 use Rattle.typing.proofs.Examples as equations
 use Rattle.trees.proofs.Uniques.{one_tree}
-use Rattle.trees.specs.Worked.{form, int, atom, goal₁, goal₂, fact, circle, twins, numbers, Answered, numbers_hold, wrong_after_false, fails_after_false, cut_at_one, circle_is_cut, three_steps, apart, old_equations_kept, Worked}
+use Rattle.trees.specs.Worked.{form, int, atom, goal₁, goal₂, fact, circle, numbers, numbers_hold, wrong_after_false, fails_after_false, cut_at_one, circle_is_cut, three_steps, old_equations_kept, Worked}
 use Rattle.trees.proofs.Summaries.{summed}
 
 abbrev ones : Subst
@@ -28,10 +28,10 @@ t1 : numbers_hold
 t1 = (
   record {
     tree = number_tree;
-    is = is-branch (omega arith)
-        (by-false (((λ x. base 0), (refl, tt)), unlike₁) is-failed
-        (by-solved (ones, (refl, tt)) is-success
-        (by-wrong unfit₁ by-none)));
+    is = is_branch (omega arith)
+        (by_false (((λ x. base 0), (refl, tt)), unlike₁) is_failed
+        (by_solved (ones, (refl, tt)) is_success
+        (by_wrong unfit₁ by_none)));
     verdict = (summed number_tree).verdict;
     steps_are = refl;
   },
@@ -44,8 +44,8 @@ lone t = branch (and t no_more)
 t2 : wrong_after_false
 t2 = record {
   tree = lone (lone wrong);
-  is = is-branch (omega arith) (by-false (((λ x. base 0), (refl, tt)), unlike₂)
-      (is-branch (omega arith) (by-wrong unfit₂ by-none)) by-none);
+  is = is_branch (omega arith) (by_false (((λ x. base 0), (refl, tt)), unlike₂)
+      (is_branch (omega arith) (by_wrong unfit₂ by_none)) by_none);
   verdict = (summed (lone (lone wrong))).verdict;
   steps_are = refl;
 }
@@ -53,8 +53,8 @@ t2 = record {
 t3 : fails_after_false
 t3 = record {
   tree = lone (lone failed);
-  is = is-branch (omega arith) (by-false (((λ x. base 0), (refl, tt)), unlike₂)
-      (is-branch (omega arith) (by-solved (ones, (refl, tt)) is-failed by-none)) by-none);
+  is = is_branch (omega arith) (by_false (((λ x. base 0), (refl, tt)), unlike₂)
+      (is_branch (omega arith) (by_solved (ones, (refl, tt)) is_failed by_none)) by_none);
   verdict = (summed (lone (lone failed))).verdict;
   steps_are = refl;
 }
@@ -63,13 +63,13 @@ t4 : cut_at_one
 t4 = (
   record {
     tree = lone cut;
-    is = is-branch (omega arith) (by-solved (ones, (refl, tt)) (is_cut (omega arith)) by-none);
+    is = is_branch (omega arith) (by_solved (ones, (refl, tt)) (is_cut (omega arith)) by_none);
     verdict = (summed (lone cut)).verdict;
     steps_are = refl;
   },
   record {
     tree = lone (lone success);
-    is = is-branch (omega arith) (by-solved (ones, (refl, tt)) (is-branch (omega arith) (by-solved (ones, (refl, (refl, tt))) is-success by-none)) by-none);
+    is = is_branch (omega arith) (by_solved (ones, (refl, tt)) (is_branch (omega arith) (by_solved (ones, (refl, (refl, tt))) is_success by_none)) by_none);
     verdict = (summed (lone (lone success))).verdict;
     steps_are = refl;
   },
@@ -83,7 +83,7 @@ turns : (n k : ℕ) (t : Term) (E : Eqs) → n + k ≡ 32 → Unifies ones E →
 turns zero k t E l u e = is_cut (omega arith)
 turns (suc n) k t E l u e =
     let w : Unifies ones (with_head k (goal₁ 0 t) (record { head = goal₁ 0 (var 0); body = goal₁ 0 (var 0) ∷ [] }) E) = (ap (λ (x : Term). fun 0 (more x none)) e, u) in
-    is-branch (omega arith) (by-solved (ones, w) (turns n (suc k) _ _ (omega arith) w refl) by-none)
+    is_branch (omega arith) (by_solved (ones, w) (turns n (suc k) _ _ (omega arith) w refl) by_none)
 
 t5 : circle_is_cut
 t5 = record { tree = chain 32; is = turns 32 0 (int 1) [] refl tt refl; verdict = (summed (chain 32)).verdict; steps_are = refl }
@@ -94,10 +94,10 @@ unlike₃ s = let e = s.1.0 in let z : ◌≡◌ {A = ℕ} 2 1 = cc in omega ari
 kept : old_equations_kept
 kept = record {
   tree = lone (lone failed);
-  is = is-branch (omega arith)
-      (by-false (((λ x. base 2), (refl, tt)), unlike₃)
-      (is-branch (omega arith) (by-solved ((λ x. int 5), (refl, tt)) is-failed by-none))
-      by-none);
+  is = is_branch (omega arith)
+      (by_false (((λ x. base 2), (refl, tt)), unlike₃)
+      (is_branch (omega arith) (by_solved ((λ x. int 5), (refl, tt)) is_failed by_none))
+      by_none);
   verdict = (summed (lone (lone failed))).verdict;
   steps_are = refl;
 }

@@ -1,6 +1,6 @@
 -- One equation of two goals is as good as the equations of their arguments
-use Rattle.std.specs.Prelude.{◌≡◌, ℕ, ◌↔◌, List, [], ◌∷◌, ◌++◌}
-use Rattle.trees.specs.Terms.{Term, Terms, fun, none, more, arity, Subst, Eqs, ◌≈◌, Unifies, KTerm, Signature, Fits}
+use Rattle.std.specs.Prelude.{◌≡◌, ℕ, ◌↔◌, [], ◌∷◌, ◌++◌}
+use Rattle.trees.specs.Terms.{Terms, fun, none, more, arity, Subst, Eqs, ◌≈◌, Unifies, KTerm, Signature, Fits}
 
 abbrev pub pairs : Terms → Terms → Eqs
 pairs none us = []

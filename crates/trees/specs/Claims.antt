@@ -1,8 +1,8 @@
 -- What trees and proofs have to do with each other.
-use Rattle.std.specs.Prelude.{◌≡◌, ℕ, zero, suc, ◌+◌, ◌*◌, ◌<◌, ◌≤◌, Bool, true, false, ◌↔◌, List, [], ◌∷◌, ◌++◌, length}
+use Rattle.std.specs.Prelude.{◌≡◌, ℕ, ◌+◌, ◌≤◌, Bool, true, ◌↔◌, List, length}
 use Rattle.trees.specs.Terms.{Subst, Unifies, Eqs, EqsBelow, Solvable, Signature, Outcome, OutcomeOf}
-use Rattle.trees.specs.Tree.{Goal, Program, Small, GoalsBelow, fresh, Tree, IsTree, Succeeds, steps}
-use Rattle.trees.specs.Proofs.{Proof, ProofUnder, uses, path}
+use Rattle.trees.specs.Tree.{Goal, Program, Small, GoalsBelow, fresh, Tree, IsTree, Succeeds}
+use Rattle.trees.specs.Proofs.{ProofUnder, uses, path}
 use Rattle.trees.specs.Verdicts.{Verdict, holds, VerdictOf, Told, NoWorse}
 
 -- the success leaves under a node, by their paths, are the proofs under a unifier of its equations within what is left of the limit

@@ -1,8 +1,8 @@
 -- The summary of a tree, as a search gathers it: steps, best path, whether a leaf was cut, whether all were wrong
-use Rattle.std.specs.Prelude.{◌≡◌, ℕ, suc, ◌+◌, ◌<◌, ◌≤◌, Bool, true, false, cond, ◌&&◌, ◌||◌, ◌↔◌, List, [], ◌∷◌, ◌++◌, length, nat_lt}
+use Rattle.std.specs.Prelude.{◌≡◌, ℕ, suc, ◌+◌, Bool, true, false, cond, ◌&&◌, ◌||◌, ◌↔◌, List, [], ◌∷◌, ◌++◌, length, nat_lt}
 use Rattle.std.proofs.Math.Option.{Option, some, none}
 use Rattle.trees.specs.Tree.{Tree, Trees, success, failed, wrong, cut, dropped, branch, no_more, and, Succeeds, steps}
-use Rattle.trees.specs.Verdicts.{Verdict, holds, unsettled, erroneous, fails, VerdictOf, SomeCut, AllWrong, NoWorse, Told}
+use Rattle.trees.specs.Verdicts.{Verdict, holds, unsettled, erroneous, fails, VerdictOf, SomeCut, AllWrong, NoWorse}
 
 pub record Summary : Type 0 where
   pub edges : ℕ

@@ -1,5 +1,5 @@
 -- Variables below a number, and what an outcome of typed unification means, over the terms and equations of the crate `typing`.
-use Rattle.std.specs.Prelude.{ℕ, ◌<◌, List, [], ◌∷◌}
+use Rattle.std.specs.Prelude.{ℕ, ◌<◌, [], ◌∷◌}
 pub use Rattle.typing.specs.Terms.{Term, Terms, var, con, fun, none, more, arity, Subst, apply, applies, KTerm, KTerms, base, kfun, knone, kmore, Signature, kinds, kinds*, Equation, ◌≈◌, Eqs, Unifies, Fits}
 pub use Rattle.typing.specs.Rules.{Outcome, solved, false, wrong, Means}
 

@@ -1,6 +1,6 @@
 -- Goals, clauses, programs and the cut tree
-use Rattle.std.specs.Prelude.{◌≡◌, ℕ, zero, suc, ◌+◌, ◌*◌, ◌<◌, ◌≤◌, Bool, true, List, [], ◌∷◌, ◌++◌, map, length}
-use Rattle.trees.specs.Terms.{Term, Terms, var, fun, none, more, arity, Subst, apply, applies, Belows, Eqs, ◌≈◌, Signature, Outcome, OutcomeOf}
+use Rattle.std.specs.Prelude.{◌≡◌, ℕ, zero, suc, ◌+◌, ◌*◌, ◌<◌, ◌≤◌, Bool, true, List, [], ◌∷◌, ◌++◌}
+use Rattle.trees.specs.Terms.{Terms, var, fun, arity, Subst, applies, Belows, Eqs, ◌≈◌, Signature, Outcome, OutcomeOf}
 
 pub record Goal : Type 0 where
   pub symbol : ℕ
@@ -71,24 +71,24 @@ mutual
 mutual
   -- t is the cut tree under the node of a flag, goals, equations and step number
   pub data IsTree (P : Program) (kind : Signature) (limit : ℕ) : Bool → List Goal → Eqs → ℕ → Tree → Type 0 where
-    is-success : {E : Eqs} {k : ℕ} → IsTree P kind limit true [] E k success
-    is-failed : {E : Eqs} {k : ℕ} → IsTree P kind limit Bool.false [] E k failed
+    is_success : {E : Eqs} {k : ℕ} → IsTree P kind limit true [] E k success
+    is_failed : {E : Eqs} {k : ℕ} → IsTree P kind limit Bool.false [] E k failed
     is_cut : {f : Bool} {g : Goal} {gs : List Goal} {E : Eqs} {k : ℕ} → limit ≤ k → IsTree P kind limit f (g ∷ gs) E k cut
-    is-dropped : {f : Bool} {g : Goal} {gs : List Goal} {E : Eqs} {k : ℕ} {t : Tree} → k < limit → listed P g ≡ [] →
+    is_dropped : {f : Bool} {g : Goal} {gs : List Goal} {E : Eqs} {k : ℕ} {t : Tree} → k < limit → listed P g ≡ [] →
         IsTree P kind limit Bool.false gs E (suc k) t → IsTree P kind limit f (g ∷ gs) E k (dropped t)
-    is-branch : {f : Bool} {g : Goal} {gs : List Goal} {E : Eqs} {k : ℕ} {t : Tree} {ts : Trees} → k < limit →
+    is_branch : {f : Bool} {g : Goal} {gs : List Goal} {E : Eqs} {k : ℕ} {t : Tree} {ts : Trees} → k < limit →
         AreTrees P kind limit f g gs E k (listed P g) (and t ts) → IsTree P kind limit f (g ∷ gs) E k (branch (and t ts))
 
   -- ts are the trees after the steps of a node's first goal with the clauses cs, in order
   pub data AreTrees (P : Program) (kind : Signature) (limit : ℕ) : Bool → Goal → List Goal → Eqs → ℕ → List Clause → Trees → Type 0 where
-    by-none : {f : Bool} {g : Goal} {gs : List Goal} {E : Eqs} {k : ℕ} → AreTrees P kind limit f g gs E k [] no_more
-    by-wrong : {f : Bool} {g : Goal} {gs : List Goal} {E : Eqs} {k : ℕ} {c : Clause} {cs : List Clause} {ts : Trees} →
+    by_none : {f : Bool} {g : Goal} {gs : List Goal} {E : Eqs} {k : ℕ} → AreTrees P kind limit f g gs E k [] no_more
+    by_wrong : {f : Bool} {g : Goal} {gs : List Goal} {E : Eqs} {k : ℕ} {c : Clause} {cs : List Clause} {ts : Trees} →
         OutcomeOf kind (with_head k g c E) Outcome.wrong →
         AreTrees P kind limit f g gs E k cs ts → AreTrees P kind limit f g gs E k (c ∷ cs) (and wrong ts)
-    by-false : {f : Bool} {g : Goal} {gs : List Goal} {E : Eqs} {k : ℕ} {c : Clause} {cs : List Clause} {t : Tree} {ts : Trees} →
+    by_false : {f : Bool} {g : Goal} {gs : List Goal} {E : Eqs} {k : ℕ} {c : Clause} {cs : List Clause} {t : Tree} {ts : Trees} →
         OutcomeOf kind (with_head k g c E) Outcome.false → IsTree P kind limit Bool.false gs E (suc k) t →
         AreTrees P kind limit f g gs E k cs ts → AreTrees P kind limit f g gs E k (c ∷ cs) (and t ts)
-    by-solved : {f : Bool} {g : Goal} {gs : List Goal} {E : Eqs} {k : ℕ} {c : Clause} {cs : List Clause} {t : Tree} {ts : Trees} →
+    by_solved : {f : Bool} {g : Goal} {gs : List Goal} {E : Eqs} {k : ℕ} {c : Clause} {cs : List Clause} {t : Tree} {ts : Trees} →
         OutcomeOf kind (with_head k g c E) Outcome.solved → IsTree P kind limit f (new_body k c ++ gs) (with_head k g c E) (suc k) t →
         AreTrees P kind limit f g gs E k cs ts → AreTrees P kind limit f g gs E k (c ∷ cs) (and t ts)
 

@@ -1,7 +1,7 @@
 -- Worked questions, a constant's kind being its form, and the worked equations with them.
-use Rattle.std.specs.Prelude.{◌≡◌, ℕ, ◌<◌, ◌≤◌, Bool, true, cond, ◌&&◌, List, [], ◌∷◌, ◌==◌}
+use Rattle.std.specs.Prelude.{◌≡◌, ℕ, ◌<◌, ◌≤◌, true, cond, ◌&&◌, List, [], ◌∷◌, ◌==◌}
 use Rattle.typing.specs.Worked as equations
-use Rattle.trees.specs.Terms.{Term, Terms, var, con, fun, none, more, Signature}
+use Rattle.trees.specs.Terms.{Term, var, con, none, more, Signature}
 use Rattle.trees.specs.Tree.{Goal, Clause, Program, Tree, IsTree, steps}
 use Rattle.trees.specs.Verdicts.{Verdict, holds, unsettled, erroneous, fails, VerdictOf, Told}
 

@@ -1,4 +1,6 @@
 // What the words mean: goals, clauses, the cut tree, proofs. Pure definitions and theorems; each theorem stands on a function.
+#![tactic(auto)]
+
 ghost use Rattle.trees.specs.Claims.{TreeTheory};
 ghost use Rattle.trees.specs.Summaries.{SummaryLaw};
 ghost use Rattle.trees.specs.Search.{SearchLaw, MovesLaw, RootLaw, CountLaw};

@@ -1,11 +1,11 @@
 -- How often a variable stands somewhere, and what that decides.
 use mathlib.Core.Path.{◌≡◌, refl, sym, ◌∙◌, ap, ap₂}
-use mathlib.Core.Logic.{◌↔◌, ◌≢◌, ◌⊎◌, inl, inr}
-use mathlib.Core.List.{List, [], ◌∷◌, ◌++◌}
+use mathlib.Core.Logic.{◌≢◌, ◌⊎◌, inl, inr}
+use mathlib.Core.List.{[], ◌∷◌, ◌++◌}
 use Prim.Native.Nat.{ℕ, ◌+◌, ◌≤◌}
 use native.Mathlib.Decide.{ℕ_discrete, dec_le}
 use native.Mathlib.Omega.{arith}
-use Rattle.typing.specs.Terms.{Term, var, con, fun, Terms, none, more, arity, Equation, ◌≈◌, Eqs, arguments, Subst, apply, applies, if, set, replace, replaces, count, counts, count_in, Unifies}
+use Rattle.typing.specs.Terms.{Term, var, con, fun, Terms, none, more, arity, Equation, Eqs, arguments, Subst, apply, applies, if, set, replace, replaces, count, counts, count_in, Unifies}
 use Rattle.typing.specs.Rules.{Against, on_left, on_right}
 
 -- A question decided one way.
@@ -54,22 +54,22 @@ count_against y (on_right n) = omega arith
 
 -- Replacing x by a term without it leaves no x.
 mutual
-  count-gone : (x : ℕ) (t : Term) → count x t ≡ 0 → (u : Term) → count x (replace x t u) ≡ 0
-  count-gone x t h (var y) = at (ℕ_discrete y x)
+  count_gone : (x : ℕ) (t : Term) → count x t ≡ 0 → (u : Term) → count x (replace x t u) ≡ 0
+  count_gone x t h (var y) = at (ℕ_discrete y x)
     where
       at : (d : Dec (y ≡ x)) → count x (if d t (var y)) ≡ 0
       at (yes p) = h
       at (no n) = count_other x y (λ p. n (sym p))
-  count-gone x t h (con f v) = refl
-  count-gone x t h (fun s ts) = counts-gone x t h ts
+  count_gone x t h (con f v) = refl
+  count_gone x t h (fun s ts) = counts_gone x t h ts
 
-  counts-gone : (x : ℕ) (t : Term) → count x t ≡ 0 → (us : Terms) → counts x (applies (set x t var) us) ≡ 0
-  counts-gone x t h none = refl
-  counts-gone x t h (more u us) = omega (arith, count-gone x t h u, counts-gone x t h us)
+  counts_gone : (x : ℕ) (t : Term) → count x t ≡ 0 → (us : Terms) → counts x (applies (set x t var) us) ≡ 0
+  counts_gone x t h none = refl
+  counts_gone x t h (more u us) = omega (arith, count_gone x t h u, counts_gone x t h us)
 
 pub count_gone_in : (x : ℕ) (t : Term) → count x t ≡ 0 → (E : Eqs) → count_in x (replaces x t E) ≡ 0
 count_gone_in x t h [] = refl
-count_gone_in x t h (e ∷ E) = omega (arith, count-gone x t h e.left, count-gone x t h e.right, count_gone_in x t h E)
+count_gone_in x t h (e ∷ E) = omega (arith, count_gone x t h e.left, count_gone x t h e.right, count_gone_in x t h E)
 
 -- It leaves the number of any other variable that the term is without.
 mutual
@@ -80,11 +80,11 @@ mutual
       at (yes p) = h ∙ sym (count_other y z (λ q. n (q ∙ p)))
       at (no k) = refl
   count_kept y x t n h (con f v) = refl
-  count_kept y x t n h (fun s ts) = counts-kept y x t n h ts
+  count_kept y x t n h (fun s ts) = counts_kept y x t n h ts
 
-  counts-kept : (y x : ℕ) (t : Term) → y ≢ x → count y t ≡ 0 → (us : Terms) → counts y (applies (set x t var) us) ≡ counts y us
-  counts-kept y x t n h none = refl
-  counts-kept y x t n h (more u us) = ap₂ ◌+◌ (count_kept y x t n h u) (counts-kept y x t n h us)
+  counts_kept : (y x : ℕ) (t : Term) → y ≢ x → count y t ≡ 0 → (us : Terms) → counts y (applies (set x t var) us) ≡ counts y us
+  counts_kept y x t n h none = refl
+  counts_kept y x t n h (more u us) = ap₂ ◌+◌ (count_kept y x t n h u) (counts_kept y x t n h us)
 
 pub count_kept_in : (y x : ℕ) (t : Term) → y ≢ x → count y t ≡ 0 → (E : Eqs) → count_in y (replaces x t E) ≡ count_in y E
 count_kept_in y x t n h [] = refl
@@ -92,28 +92,28 @@ count_kept_in y x t n h (e ∷ E) = omega (arith, count_kept y x t n h e.left, c
 
 -- Assignments that agree on the variables of a term do the same to it.
 mutual
-  pub same-on : (σ τ : Subst) (u : Term) → ((y : ℕ) → 1 ≤ count y u → σ y ≡ τ y) → apply σ u ≡ apply τ u
-  same-on σ τ (var x) h = h x (omega (arith, count_self x))
-  same-on σ τ (con f v) h = refl
-  same-on σ τ (fun s ts) h = ap (fun s) (same-on* σ τ ts h)
+  pub same_on : (σ τ : Subst) (u : Term) → ((y : ℕ) → 1 ≤ count y u → σ y ≡ τ y) → apply σ u ≡ apply τ u
+  same_on σ τ (var x) h = h x (omega (arith, count_self x))
+  same_on σ τ (con f v) h = refl
+  same_on σ τ (fun s ts) h = ap (fun s) (same_on* σ τ ts h)
 
-  same-on* : (σ τ : Subst) (us : Terms) → ((y : ℕ) → 1 ≤ counts y us → σ y ≡ τ y) → applies σ us ≡ applies τ us
-  same-on* σ τ none h = refl
-  same-on* σ τ (more u us) h = ap₂ more (same-on σ τ u (λ y k. h y (omega arith))) (same-on* σ τ us (λ y k. h y (omega arith)))
+  same_on* : (σ τ : Subst) (us : Terms) → ((y : ℕ) → 1 ≤ counts y us → σ y ≡ τ y) → applies σ us ≡ applies τ us
+  same_on* σ τ none h = refl
+  same_on* σ τ (more u us) h = ap₂ more (same_on σ τ u (λ y k. h y (omega arith))) (same_on* σ τ us (λ y k. h y (omega arith)))
 
 pub same_unifies : (σ τ : Subst) (E : Eqs) → ((y : ℕ) → 1 ≤ count_in y E → σ y ≡ τ y) → Unifies τ E → Unifies σ E
 same_unifies σ τ [] h k = tt
 same_unifies σ τ (e ∷ E) h k = (
-  same-on σ τ e.left (λ y c. h y (omega arith)) ∙ k.0 ∙ sym (same-on σ τ e.right (λ y c. h y (omega arith))),
+  same_on σ τ e.left (λ y c. h y (omega arith)) ∙ k.0 ∙ sym (same_on σ τ e.right (λ y c. h y (omega arith))),
   same_unifies σ τ E (λ y c. h y (omega arith)) k.1,
 )
 
 mutual
-  pub apply-var : (u : Term) → apply var u ≡ u
-  apply-var (var x) = refl
-  apply-var (con f v) = refl
-  apply-var (fun s ts) = ap (fun s) (apply-var* ts)
+  pub apply_var : (u : Term) → apply var u ≡ u
+  apply_var (var x) = refl
+  apply_var (con f v) = refl
+  apply_var (fun s ts) = ap (fun s) (apply_var* ts)
 
-  apply-var* : (us : Terms) → applies var us ≡ us
-  apply-var* none = refl
-  apply-var* (more u us) = ap₂ more (apply-var u) (apply-var* us)
+  apply_var* : (us : Terms) → applies var us ≡ us
+  apply_var* none = refl
+  apply_var* (more u us) = ap₂ more (apply_var u) (apply_var* us)

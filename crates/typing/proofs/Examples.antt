@@ -1,13 +1,12 @@
 -- The worked examples, from what the outcomes mean.
-use mathlib.Core.Path.{◌≡◌, refl, sym, ◌∙◌, ap}
-use mathlib.Core.Logic.{◌≢◌}
-use mathlib.Core.List.{List, [], ◌∷◌}
-use Prim.Native.Nat.{ℕ, ◌+◌, ◌≤◌}
+use mathlib.Core.Path.{◌≡◌, refl, sym, ◌∙◌}
+use mathlib.Core.List.{[], ◌∷◌}
+use Prim.Native.Nat.{ℕ, ◌+◌}
 use native.Mathlib.Decide.{ℕ_discrete}
 use native.Mathlib.Omega.{arith}
 use lib.ListN.{get_or}
-use Rattle.typing.specs.Terms.{Term, var, con, fun, Terms, none, more, ◌≈◌, KTerm, base, kfun}
-use Rattle.typing.specs.Rules.{on_left, inside_itself, stop, at_clash, Outcome, solved, false, wrong}
+use Rattle.typing.specs.Terms.{var, con, base}
+use Rattle.typing.specs.Rules.{on_left, inside_itself, stop, at_clash, solved, false, wrong}
 use Rattle.typing.specs.Worked.{form, declared, Worked}
 use Rattle.typing.proofs.Counts.{if_yes, count_self}
 use Rattle.typing.proofs.Finals.{fun_var}

@@ -1,11 +1,11 @@
 -- The variable that an equation is against something: how often y is it.
-use mathlib.Core.Path.{◌≡◌, refl, sym, ◌∙◌, ap}
+use mathlib.Core.Path.{◌≡◌, refl, ◌∙◌}
 use mathlib.Core.Logic.{◌≢◌}
-use mathlib.Core.List.{List, [], ◌∷◌, ◌++◌}
+use mathlib.Core.List.{[], ◌∷◌, ◌++◌}
 use Prim.Native.Nat.{ℕ, ◌+◌, ◌≤◌}
 use native.Mathlib.Decide.{ℕ_discrete}
 use native.Mathlib.Omega.{arith}
-use Rattle.typing.specs.Terms.{Term, var, con, fun, Terms, Equation, ◌≈◌, Eqs, Subst, set, if, replace, replaces, count, counts, count_in}
+use Rattle.typing.specs.Terms.{Term, var, con, fun, Equation, Eqs, Subst, set, if, replace, replaces, count, count_in}
 use Rattle.typing.specs.Rules.{Against, on_left, on_right, shown}
 use Rattle.typing.proofs.Counts.{count_self, count_other, count_var}
 
@@ -65,24 +65,24 @@ heads_append y (e ∷ E) F = omega (arith, heads_append y E F)
 
 -- Replacing another variable takes none of them away.
 module _ (y x : ℕ) (t : Term) (n : y ≢ x) where
-  lone-kept : (u : Term) → lone y u ≤ lone y (replace x t u)
-  lone-kept (var z) = at (ℕ_discrete z x)
+  lone_kept : (u : Term) → lone y u ≤ lone y (replace x t u)
+  lone_kept (var z) = at (ℕ_discrete z x)
     where
       at : (d : Dec (z ≡ x)) → count y (var z) ≤ lone y (if d t (var z))
       at (yes p) = omega (arith, count_other y z (λ q. n (q ∙ p)))
       at (no k) = omega arith
-  lone-kept (con f v) = omega arith
-  lone-kept (fun s ts) = omega arith
+  lone_kept (con f v) = omega arith
+  lone_kept (fun s ts) = omega arith
 
-  head-kept : (s u : Term) → head y s u ≤ head y (replace x t s) (replace x t u)
-  head-kept (var z) u = at (ℕ_discrete z x)
+  head_kept : (s u : Term) → head y s u ≤ head y (replace x t s) (replace x t u)
+  head_kept (var z) u = at (ℕ_discrete z x)
     where
       at : (d : Dec (z ≡ x)) → count y (var z) ≤ head y (if d t (var z)) (replace x t u)
       at (yes p) = omega (arith, count_other y z (λ q. n (q ∙ p)))
       at (no k) = omega arith
-  head-kept (con f v) u = lone-kept u
-  head-kept (fun s ts) u = lone-kept u
+  head_kept (con f v) u = lone_kept u
+  head_kept (fun s ts) u = lone_kept u
 
-  pub heads-kept : (E : Eqs) → heads y E ≤ heads y (replaces x t E)
-  heads-kept [] = omega arith
-  heads-kept (e ∷ E) = omega (arith, head-kept e.left e.right, heads-kept E)
+  pub heads_kept : (E : Eqs) → heads y E ≤ heads y (replaces x t E)
+  heads_kept [] = omega arith
+  heads_kept (e ∷ E) = omega (arith, head_kept e.left e.right, heads_kept E)

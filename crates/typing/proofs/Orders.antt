@@ -1,15 +1,15 @@
 -- The outcome of every order of the rules.
-use mathlib.Core.Path.{◌≡◌, refl, sym, ◌∙◌, ap}
-use mathlib.Core.Logic.{◌↔◌, ◌≢◌, ◌⊎◌, inl, inr}
+use mathlib.Core.Path.{◌≡◌, refl}
+use mathlib.Core.Logic.{◌↔◌, ◌⊎◌, inl, inr}
 use mathlib.Core.Bool.{Bool, false≢true}
-use mathlib.Core.List.{List, [], ◌∷◌, ◌++◌}
+use mathlib.Core.List.{◌++◌}
 use mathlib.Core.WellFounded.{Acc}
 use Prim.Native.Nat.{ℕ}
 use native.Mathlib.Omega.{arith}
-use Rattle.typing.specs.Terms.{Equation, Eqs, Subst, apply, KTerm, Signature, kinds, Unifies, Fits, MostGeneral}
-use Rattle.typing.specs.Rules.{State, state, Step, Clash, Run, stop, step, Final, Outcome, solved, false, wrong, Ends, at_clash, at_true, at_false, ComesTo, solution, Means, Reads, InEveryOrder, EveryOrder}
+use Rattle.typing.specs.Terms.{Eqs, Subst, apply, KTerm, Signature, kinds, Unifies, Fits}
+use Rattle.typing.specs.Rules.{State, state, Step, Run, stop, step, Final, Outcome, solved, false, wrong, Ends, at_clash, at_true, at_false, ComesTo, solution, Means, Reads, EveryOrder}
 use Rattle.typing.proofs.Steps.{run_fits, run_unifies, run_unifies_back}
-use Rattle.typing.proofs.Clashes.{clash-fits, some_fits}
+use Rattle.typing.proofs.Clashes.{clash_fits, some_fits}
 use Rattle.typing.proofs.Finals.{Applies, Settled, next, final_settled, settled_final}
 use Rattle.typing.proofs.Solutions.{solution_unifies, solution_general}
 use Rattle.typing.proofs.Readings.{front, back, join}
@@ -28,15 +28,15 @@ one_meaning kind E wrong false h k = absurd (h k.0)
 one_meaning kind E wrong wrong h k = refl
 
 module _ (kind : Signature) where
-  final-alike : (s : State) → Final kind s → Unifies (solution s.eqs) s.eqs
-  final-alike s f = solution_unifies s.eqs (final_settled kind s f)
+  final_alike : (s : State) → Final kind s → Unifies (solution s.eqs) s.eqs
+  final_alike s f = solution_unifies s.eqs (final_settled kind s f)
 
   -- what a run has come to, it means
   meaning : (E : Eqs) (o : Outcome) (s : State) → Run kind (state Bool.true E) s → Ends kind s o → Means kind E o
-  meaning E o s r (at_clash c) = λ k. clash-fits kind k.0 c ((run_fits kind k.0 r).0 k.1)
-  meaning E o s r (at_true {E = F} f) = (solution F, (run_unifies_back kind (solution F) r refl (final-alike (state Bool.true F) f)).1)
+  meaning E o s r (at_clash c) = λ k. clash_fits kind k.0 c ((run_fits kind k.0 r).0 k.1)
+  meaning E o s r (at_true {E = F} f) = (solution F, (run_unifies_back kind (solution F) r refl (final_alike (state Bool.true F) f)).1)
   meaning E o s r (at_false {E = F} f) =
-      let k = some_fits kind F (solution F, final-alike (state Bool.false F) f) in
+      let k = some_fits kind F (solution F, final_alike (state Bool.false F) f) in
       ((k.0, (run_fits kind k.0 r).1 k.1), λ u. false≢true (run_unifies kind u.0 r u.1).0)
 
   pub comes : (E : Eqs) (o : Outcome) → ComesTo kind E o → Means kind E o
@@ -59,41 +59,41 @@ module _ (kind : Signature) where
       at (inl (inr c)) ih = (wrong, x, stop, at_clash c)
       at (inr q) ih = let f = at-final x (settled_final kind x q) in (f.0, x, stop, f.1)
 
-  some-order : (E : Eqs) → (o : Outcome) × ComesTo kind E o
-  some-order E = let q = ending (state Bool.true E) (always_ends kind (state Bool.true E)) in (q.0, record { last = q.1; run = q.2; ends = q.3 })
+  some_order : (E : Eqs) → (o : Outcome) × ComesTo kind E o
+  some_order E = let q = ending (state Bool.true E) (always_ends kind (state Bool.true E)) in (q.0, record { last = q.1; run = q.2; ends = q.3 })
 
   -- what an outcome means, some run comes to
   pub meant : (E : Eqs) (o : Outcome) → Means kind E o → ComesTo kind E o
-  meant E o m = let q = some-order E in rw (one_meaning kind E o q.0 m (comes E q.0 q.1)) q.1
+  meant E o m = let q = some_order E in rw (one_meaning kind E o q.0 m (comes E q.0 q.1)) q.1
 
   -- at the end of a run with its flag true
   module _ (E F : Eqs) (r : Run kind (state Bool.true E) (state Bool.true F)) where
-    final-unifies : Final kind (state Bool.true F) → Unifies (solution F) E
-    final-unifies f = (run_unifies_back kind (solution F) r refl (final-alike (state Bool.true F) f)).1
+    final_unifies : Final kind (state Bool.true F) → Unifies (solution F) E
+    final_unifies f = (run_unifies_back kind (solution F) r refl (final_alike (state Bool.true F) f)).1
 
-    final-general : Final kind (state Bool.true F) → (η : Subst) → Unifies η E → (x : ℕ) → η x ≡ apply η (solution F x)
-    final-general f η u = solution_general F (final_settled kind (state Bool.true F) f) η (run_unifies kind η r u).1
+    final_general : Final kind (state Bool.true F) → (η : Subst) → Unifies η E → (x : ℕ) → η x ≡ apply η (solution F x)
+    final_general f η u = solution_general F (final_settled kind (state Bool.true F) f) η (run_unifies kind η r u).1
 
     -- the same assignments of terms, and of kinds
-    more-terms : (G : Eqs) (θ : Subst) → Unifies θ (E ++ G) ↔ Unifies θ (F ++ G)
-    more-terms G θ = (
+    more_terms : (G : Eqs) (θ : Subst) → Unifies θ (E ++ G) ↔ Unifies θ (F ++ G)
+    more_terms G θ = (
       λ h. join (apply θ) F G (run_unifies kind θ r (front (apply θ) E G h)).1 (back (apply θ) E G h),
       λ h. join (apply θ) E G (run_unifies_back kind θ r refl (front (apply θ) F G h)).1 (back (apply θ) F G h),
     )
 
-    more-kinds : (G : Eqs) (κ : ℕ → KTerm) → Fits kind κ (E ++ G) ↔ Fits kind κ (F ++ G)
-    more-kinds G κ = (
+    more_kinds : (G : Eqs) (κ : ℕ → KTerm) → Fits kind κ (E ++ G) ↔ Fits kind κ (F ++ G)
+    more_kinds G κ = (
       λ h. join (kinds kind κ) F G ((run_fits kind κ r).0 (front (kinds kind κ) E G h)) (back (kinds kind κ) E G h),
       λ h. join (kinds kind κ) E G ((run_fits kind κ r).1 (front (kinds kind κ) F G h)) (back (kinds kind κ) F G h),
     )
 
-  the-reading : (E : Eqs) → ComesTo kind E solved → (θ : Subst) × Reads θ E × ((η : Subst) → Reads η E → (x : ℕ) → η x ≡ θ x)
-  the-reading E c = go solved c.last c.run c.ends refl
+  the_reading : (E : Eqs) → ComesTo kind E solved → (θ : Subst) × Reads θ E × ((η : Subst) → Reads η E → (x : ℕ) → η x ≡ θ x)
+  the_reading E c = go solved c.last c.run c.ends refl
     where
       go : (o : Outcome) (s : State) → Run kind (state Bool.true E) s → Ends kind s o → o ≡ solved
           → (θ : Subst) × Reads θ E × ((η : Subst) → Reads η E → (x : ℕ) → η x ≡ θ x)
       go o s r (at_clash k) p = let z : ◌≡◌ {A = ℕ} 0 1 = cc in absurd (omega arith)
-      go o s r (at_true {E = F} f) p = some_reading (solution F) E (final-unifies E F r f) (final-general E F r f)
+      go o s r (at_true {E = F} f) p = some_reading (solution F) E (final_unifies E F r f) (final_general E F r f)
       go o s r (at_false {E = F} f) p = let z : ◌≡◌ {A = ℕ} 0 1 = cc in absurd (omega arith)
 
 -- Equations with the same assignments come to the same.
@@ -113,9 +113,9 @@ comes_same kind E F a b o = (
 pub every_order : EveryOrder
 every_order kind E = record {
   ends = always_ends kind (state Bool.true E);
-  comes_to_one = let q = some-order kind E in (q.0, q.1, λ p c. one_meaning kind E p q.0 (comes kind E p c) (comes kind E q.0 q.1));
+  comes_to_one = let q = some_order kind E in (q.0, q.1, λ p c. one_meaning kind E p q.0 (comes kind E p c) (comes kind E q.0 q.1));
   comes_when = λ o. (comes kind E o, meant kind E o);
-  shows = λ F r f. record { unifies = final-unifies kind E F r f; general = λ η u. (η, final-general kind E F r f η u) };
-  reads = the-reading kind E;
-  goes_on = λ F G r. comes_same kind (E ++ G) (F ++ G) (more-terms kind E F r G) (more-kinds kind E F r G);
+  shows = λ F r f. record { unifies = final_unifies kind E F r f; general = λ η u. (η, final_general kind E F r f η u) };
+  reads = the_reading kind E;
+  goes_on = λ F G r. comes_same kind (E ++ G) (F ++ G) (more_terms kind E F r G) (more_kinds kind E F r G);
 }

@@ -1,11 +1,10 @@
 -- What assignments of terms and assignments of kinds share: both read a term part by part, without loss at functions.
 use mathlib.Core.Path.{◌≡◌, refl, sym, ◌∙◌, ap, ap₂}
-use mathlib.Core.Logic.{◌↔◌, ◌≢◌}
-use mathlib.Core.List.{List, [], ◌∷◌, ◌++◌}
-use Prim.Native.Nat.{ℕ, ◌+◌}
+use mathlib.Core.List.{[], ◌∷◌, ◌++◌}
+use Prim.Native.Nat.{ℕ}
 use native.Mathlib.Decide.{ℕ_discrete}
 use native.Mathlib.Omega.{arith}
-use Rattle.typing.specs.Terms.{Term, var, con, fun, Terms, none, more, arity, Equation, ◌≈◌, Eqs, arguments, Subst, apply, applies, if, set, replace, replaces, KTerm, base, kfun, KTerms, knone, kmore, Signature, kinds, kinds*, Alike}
+use Rattle.typing.specs.Terms.{Term, var, con, fun, Terms, none, more, arity, Equation, Eqs, arguments, Subst, apply, applies, if, set, replace, replaces, KTerm, kfun, kmore, Signature, kinds, kinds*, Alike}
 use Rattle.typing.specs.Rules.{Against, on_left, on_right}
 
 pub record Reading {A As : Type 0} (value : Term → A) (values : Terms → As) : Type 0 where
@@ -61,39 +60,39 @@ module _ {A As : Type 0} {value : Term → A} {values : Terms → As} (R : Readi
     agrees σ h none = refl
     agrees σ h (more t ts) = R.at_more (apply σ t) (applies σ ts) ∙ ap₂ R.link (agree σ h t) (agrees σ h ts) ∙ sym (R.at_more t ts)
 
-  pub replace-alike : (x : ℕ) (t : Term) → value (var x) ≡ value t → (u : Term) → value (replace x t u) ≡ value u
-  replace-alike x t p = agree (set x t var) (λ y. at y (ℕ_discrete y x))
+  pub replace_alike : (x : ℕ) (t : Term) → value (var x) ≡ value t → (u : Term) → value (replace x t u) ≡ value u
+  replace_alike x t p = agree (set x t var) (λ y. at y (ℕ_discrete y x))
     where
       at : (y : ℕ) (d : Dec (y ≡ x)) → value (if d t (var y)) ≡ value (var y)
       at y (yes q) = sym p ∙ ap (λ (z : ℕ). value (var z)) (sym q)
       at y (no q) = refl
 
-  pub replaces-out : (x : ℕ) (t : Term) → value (var x) ≡ value t → (E : Eqs) → Alike value E → Alike value (replaces x t E)
-  replaces-out x t p [] h = tt
-  replaces-out x t p (e ∷ E) h = (replace-alike x t p e.left ∙ h.0 ∙ sym (replace-alike x t p e.right), replaces-out x t p E h.1)
+  pub replaces_out : (x : ℕ) (t : Term) → value (var x) ≡ value t → (E : Eqs) → Alike value E → Alike value (replaces x t E)
+  replaces_out x t p [] h = tt
+  replaces_out x t p (e ∷ E) h = (replace_alike x t p e.left ∙ h.0 ∙ sym (replace_alike x t p e.right), replaces_out x t p E h.1)
 
-  pub replaces-in : (x : ℕ) (t : Term) → value (var x) ≡ value t → (E : Eqs) → Alike value (replaces x t E) → Alike value E
-  replaces-in x t p [] h = tt
-  replaces-in x t p (e ∷ E) h = (sym (replace-alike x t p e.left) ∙ h.0 ∙ replace-alike x t p e.right, replaces-in x t p E h.1)
+  pub replaces_in : (x : ℕ) (t : Term) → value (var x) ≡ value t → (E : Eqs) → Alike value (replaces x t E) → Alike value E
+  replaces_in x t p [] h = tt
+  replaces_in x t p (e ∷ E) h = (sym (replace_alike x t p e.left) ∙ h.0 ∙ replace_alike x t p e.right, replaces_in x t p E h.1)
 
-  arguments-out : (ts us : Terms) → values ts ≡ values us → Alike value (arguments ts us)
-  arguments-out none us p = tt
-  arguments-out (more t ts) none p = tt
-  arguments-out (more t ts) (more u us) p =
+  arguments_out : (ts us : Terms) → values ts ≡ values us → Alike value (arguments ts us)
+  arguments_out none us p = tt
+  arguments_out (more t ts) none p = tt
+  arguments_out (more t ts) (more u us) p =
       let q : (value t ≡ value u) × (values ts ≡ values us) = R.link_inj (value t) (value u) (values ts) (values us) (sym (R.at_more t ts) ∙ p ∙ R.at_more u us) in
-      (q.0, arguments-out ts us q.1)
+      (q.0, arguments_out ts us q.1)
 
-  arguments-in : (ts us : Terms) → arity ts ≡ arity us → Alike value (arguments ts us) → values ts ≡ values us
-  arguments-in none none a h = refl
-  arguments-in none (more u us) a h = absurd (omega arith)
-  arguments-in (more t ts) none a h = absurd (omega arith)
-  arguments-in (more t ts) (more u us) a h = R.at_more t ts ∙ ap₂ R.link h.0 (arguments-in ts us (omega arith) h.1) ∙ sym (R.at_more u us)
+  arguments_in : (ts us : Terms) → arity ts ≡ arity us → Alike value (arguments ts us) → values ts ≡ values us
+  arguments_in none none a h = refl
+  arguments_in none (more u us) a h = absurd (omega arith)
+  arguments_in (more t ts) none a h = absurd (omega arith)
+  arguments_in (more t ts) (more u us) a h = R.at_more t ts ∙ ap₂ R.link h.0 (arguments_in ts us (omega arith) h.1) ∙ sym (R.at_more u us)
 
-  pub fun-out : (s : ℕ) (ts us : Terms) → value (fun s ts) ≡ value (fun s us) → Alike value (arguments ts us)
-  fun-out s ts us p = arguments-out ts us (R.node_inj s (values ts) (values us) (sym (R.at_fun s ts) ∙ p ∙ R.at_fun s us))
+  pub fun_out : (s : ℕ) (ts us : Terms) → value (fun s ts) ≡ value (fun s us) → Alike value (arguments ts us)
+  fun_out s ts us p = arguments_out ts us (R.node_inj s (values ts) (values us) (sym (R.at_fun s ts) ∙ p ∙ R.at_fun s us))
 
-  pub fun-in : (s : ℕ) (ts us : Terms) → arity ts ≡ arity us → Alike value (arguments ts us) → value (fun s ts) ≡ value (fun s us)
-  fun-in s ts us a h = R.at_fun s ts ∙ ap (R.node s) (arguments-in ts us a h) ∙ sym (R.at_fun s us)
+  pub fun_in : (s : ℕ) (ts us : Terms) → arity ts ≡ arity us → Alike value (arguments ts us) → value (fun s ts) ≡ value (fun s us)
+  fun_in s ts us a h = R.at_fun s ts ∙ ap (R.node s) (arguments_in ts us a h) ∙ sym (R.at_fun s us)
 
   -- an equation of X against t says that X and t are alike
   pub against : {x : ℕ} {t : Term} {e : Equation} → Against x t e → value e.left ≡ value e.right → value (var x) ≡ value t

@@ -1,13 +1,13 @@
 -- There is one reading of equations that some assignment makes alike.
 use mathlib.Core.Path.{◌≡◌, refl, sym, ◌∙◌, ap, ap₂, subst}
-use mathlib.Core.Logic.{◌≢◌, ◌⊎◌, inl, inr}
-use mathlib.Core.List.{List, [], ◌∷◌}
+use mathlib.Core.Logic.{◌⊎◌, inl, inr}
+use mathlib.Core.List.{[], ◌∷◌}
 use Prim.Native.Nat.{ℕ, zero, suc, ◌+◌, ◌≤◌, ◌<◌}
 use native.Mathlib.Decide.{ℕ_discrete, dec_le}
 use native.Mathlib.Omega.{arith}
-use Rattle.typing.specs.Terms.{Term, var, con, fun, Terms, none, more, Equation, Eqs, Subst, apply, applies, count, counts, Unifies, MostGeneral}
+use Rattle.typing.specs.Terms.{Term, var, con, fun, Terms, none, more, Eqs, Subst, apply, applies, count, counts, Unifies}
 use Rattle.typing.specs.Rules.{Reads}
-use Rattle.typing.proofs.Counts.{count_self, count_var, one_of, same-on, apply-var}
+use Rattle.typing.proofs.Counts.{count_self, count_var, one_of, same_on, apply_var}
 
 -- A term that is not a variable is none after an assignment.
 pub was_var : (δ : Subst) (t : Term) (y : ℕ) → apply δ t ≡ var y → (z : ℕ) × (t ≡ var z)
@@ -20,7 +20,7 @@ in_var {t} {y} p = omega (arith, ap (λ (u : Term). count y u) p, count_self y)
 
 -- Two readings are the same.
 pub one_reading : {σ τ : Subst} {E : Eqs} → Reads σ E → Reads τ E → (x : ℕ) → τ x ≡ σ x
-one_reading {σ} {τ} {E} a b x = into.1 x ∙ same-on into.0 var (σ x) own ∙ apply-var (σ x)
+one_reading {σ} {τ} {E} a b x = into.1 x ∙ same_on into.0 var (σ x) own ∙ apply_var (σ x)
   where
     into : (ε : Subst) × ((x : ℕ) → τ x ≡ apply ε (σ x))
     into = a.general.general τ b.general.unifies
@@ -51,9 +51,9 @@ module _ (P : ℕ → Type 0) (decide : (n : ℕ) → Dec (P n)) where
   abbrev Least : ℕ → Type 0
   Least m = P m × ((z : ℕ) → P z → m ≤ z)
 
-  search-below : (k : ℕ) → ((z : ℕ) → z < k → ¬ P z) ⊎ ((m : ℕ) × Least m)
-  search-below zero = inl (λ z h. absurd (omega arith))
-  search-below (suc k) = at (search-below k) (decide k)
+  search_below : (k : ℕ) → ((z : ℕ) → z < k → ¬ P z) ⊎ ((m : ℕ) × Least m)
+  search_below zero = inl (λ z h. absurd (omega arith))
+  search_below (suc k) = at (search_below k) (decide k)
     where
       at : ((z : ℕ) → z < k → ¬ P z) ⊎ ((m : ℕ) × Least m) → Dec (P k) → ((z : ℕ) → z < suc k → ¬ P z) ⊎ ((m : ℕ) × Least m)
       at (inr l) d = inr l
@@ -69,13 +69,13 @@ module _ (P : ℕ → Type 0) (decide : (n : ℕ) → Dec (P n)) where
           lower z h q (no e) = n z (omega arith) q
 
   -- it, or n itself where no number up to n is of the kind
-  abbrev least-or : (n : ℕ) → ((z : ℕ) → z < suc n → ¬ P z) ⊎ ((m : ℕ) × Least m) → ℕ
-  least-or n (inl h) = n
-  least-or n (inr l) = l.0
+  abbrev least_or : (n : ℕ) → ((z : ℕ) → z < suc n → ¬ P z) ⊎ ((m : ℕ) × Least m) → ℕ
+  least_or n (inl h) = n
+  least_or n (inr l) = l.0
 
-  least-is : (n : ℕ) → P n → (s : ((z : ℕ) → z < suc n → ¬ P z) ⊎ ((m : ℕ) × Least m)) → Least (least-or n s)
-  least-is n p (inl h) = absurd (h n (omega arith) p)
-  least-is n p (inr l) = l.1
+  least_is : (n : ℕ) → P n → (s : ((z : ℕ) → z < suc n → ¬ P z) ⊎ ((m : ℕ) × Least m)) → Least (least_or n s)
+  least_is n p (inl h) = absurd (h n (omega arith) p)
+  least_is n p (inr l) = l.1
 
 decide_var : (t : Term) (y : ℕ) → Dec (t ≡ var y)
 decide_var (var x) y = at (ℕ_discrete x y)
@@ -87,19 +87,19 @@ decide_var (con f v) y = no (λ p. let z : ◌≡◌ {A = ℕ} 0 1 = cc in omega
 decide_var (fun s ts) y = no (λ p. let z : ◌≡◌ {A = ℕ} 0 1 = cc in omega arith)
 
 mutual
-  pub apply-apply : (ρ σ : Subst) (u : Term) → apply ρ (apply σ u) ≡ apply (λ x. apply ρ (σ x)) u
-  apply-apply ρ σ (var x) = refl
-  apply-apply ρ σ (con f v) = refl
-  apply-apply ρ σ (fun s ts) = ap (fun s) (applies-applies ρ σ ts)
+  pub apply_apply : (ρ σ : Subst) (u : Term) → apply ρ (apply σ u) ≡ apply (λ x. apply ρ (σ x)) u
+  apply_apply ρ σ (var x) = refl
+  apply_apply ρ σ (con f v) = refl
+  apply_apply ρ σ (fun s ts) = ap (fun s) (applies_applies ρ σ ts)
 
-  applies-applies : (ρ σ : Subst) (us : Terms) → applies ρ (applies σ us) ≡ applies (λ x. apply ρ (σ x)) us
-  applies-applies ρ σ none = refl
-  applies-applies ρ σ (more u us) = ap₂ more (apply-apply ρ σ u) (applies-applies ρ σ us)
+  applies_applies : (ρ σ : Subst) (us : Terms) → applies ρ (applies σ us) ≡ applies (λ x. apply ρ (σ x)) us
+  applies_applies ρ σ none = refl
+  applies_applies ρ σ (more u us) = ap₂ more (apply_apply ρ σ u) (applies_applies ρ σ us)
 
 instance_unifies : (ρ σ : Subst) (E : Eqs) → Unifies σ E → Unifies (λ x. apply ρ (σ x)) E
 instance_unifies ρ σ [] h = tt
 instance_unifies ρ σ (e ∷ E) h =
-    (sym (apply-apply ρ σ e.left) ∙ ap (apply ρ) h.0 ∙ apply-apply ρ σ e.right, instance_unifies ρ σ E h.1)
+    (sym (apply_apply ρ σ e.left) ∙ ap (apply ρ) h.0 ∙ apply_apply ρ σ e.right, instance_unifies ρ σ E h.1)
 
 -- What leaves a term as it is leaves its variables.
 mutual
@@ -118,14 +118,14 @@ mutual
 
 -- A variable of a term after an assignment came with a variable of the term.
 mutual
-  came-with : (ρ : Subst) (u : Term) (y : ℕ) → 1 ≤ count y (apply ρ u) → (w : ℕ) × (1 ≤ count w u) × (1 ≤ count y (ρ w))
-  came-with ρ (var x) y c = (x, omega (arith, count_self x), c)
-  came-with ρ (con f v) y c = absurd (omega arith)
-  came-with ρ (fun s ts) y c = came-with* ρ ts y c
+  came_with : (ρ : Subst) (u : Term) (y : ℕ) → 1 ≤ count y (apply ρ u) → (w : ℕ) × (1 ≤ count w u) × (1 ≤ count y (ρ w))
+  came_with ρ (var x) y c = (x, omega (arith, count_self x), c)
+  came_with ρ (con f v) y c = absurd (omega arith)
+  came_with ρ (fun s ts) y c = came_with* ρ ts y c
 
-  came-with* : (ρ : Subst) (us : Terms) (y : ℕ) → 1 ≤ counts y (applies ρ us) → (w : ℕ) × (1 ≤ counts w us) × (1 ≤ count y (ρ w))
-  came-with* ρ none y c = absurd (omega arith)
-  came-with* ρ (more u us) y c = at (one_of (count y (apply ρ u)) (counts y (applies ρ us)) c) (came-with ρ u y) (came-with* ρ us y)
+  came_with* : (ρ : Subst) (us : Terms) (y : ℕ) → 1 ≤ counts y (applies ρ us) → (w : ℕ) × (1 ≤ counts w us) × (1 ≤ count y (ρ w))
+  came_with* ρ none y c = absurd (omega arith)
+  came_with* ρ (more u us) y c = at (one_of (count y (apply ρ u)) (counts y (applies ρ us)) c) (came_with ρ u y) (came_with* ρ us y)
     where
       at : (1 ≤ count y (apply ρ u)) ⊎ (1 ≤ counts y (applies ρ us))
           → (1 ≤ count y (apply ρ u) → (w : ℕ) × (1 ≤ count w u) × (1 ≤ count y (ρ w)))
@@ -140,11 +140,11 @@ module _ (σ : Subst) (E : Eqs) (unifies : Unifies σ E) (own : (η : Subst) →
   Tied y z = σ z ≡ var y
 
   low : ℕ → ℕ
-  low y = least-or (Tied y) (λ z. decide_var (σ z) y) y (search-below (Tied y) (λ z. decide_var (σ z) y) (suc y))
+  low y = least_or (Tied y) (λ z. decide_var (σ z) y) y (search_below (Tied y) (λ z. decide_var (σ z) y) (suc y))
 
-  low-least : (y : ℕ) → σ y ≡ var y → (σ (low y) ≡ var y) × ((z : ℕ) → σ z ≡ var y → low y ≤ z)
+  low_least : (y : ℕ) → σ y ≡ var y → (σ (low y) ≡ var y) × ((z : ℕ) → σ z ≡ var y → low y ≤ z)
   unfolding low
-  low-least y p = least-is (Tied y) (λ z. decide_var (σ z) y) y p (search-below (Tied y) (λ z. decide_var (σ z) y) (suc y))
+  low_least y p = least_is (Tied y) (λ z. decide_var (σ z) y) y p (search_below (Tied y) (λ z. decide_var (σ z) y) (suc y))
 
   unmoved : (x y : ℕ) → 1 ≤ count y (σ x) → σ y ≡ var y
   unmoved x y c = fixed σ (σ x) (sym (own σ unifies x)) y c
@@ -155,13 +155,13 @@ module _ (σ : Subst) (E : Eqs) (unifies : Unifies σ E) (own : (η : Subst) →
   abbrev reading : Subst
   reading x = apply ρ (σ x)
 
-  reading-general : (η : Subst) → Unifies η E → (x : ℕ) → η x ≡ apply η (reading x)
-  reading-general η u x = own η u x
-      ∙ sym (apply-apply η ρ (σ x)
-      ∙ same-on (λ y. η (low y)) η (σ x) (λ y c. own η u (low y) ∙ ap (apply η) (low-least y (unmoved x y c)).0))
+  reading_general : (η : Subst) → Unifies η E → (x : ℕ) → η x ≡ apply η (reading x)
+  reading_general η u x = own η u x
+      ∙ sym (apply_apply η ρ (σ x)
+      ∙ same_on (λ y. η (low y)) η (σ x) (λ y c. own η u (low y) ∙ ap (apply η) (low_least y (unmoved x y c)).0))
 
-  reading-lowest : (x y : ℕ) → 1 ≤ count y (reading x) → (reading y ≡ var y) × ((z : ℕ) → reading z ≡ var y → y ≤ z)
-  reading-lowest x y c = go (came-with ρ (σ x) y c)
+  reading_lowest : (x y : ℕ) → 1 ≤ count y (reading x) → (reading y ≡ var y) × ((z : ℕ) → reading z ≡ var y → y ≤ z)
+  reading_lowest x y c = go (came_with ρ (σ x) y c)
     where
       go : (w : ℕ) × (1 ≤ count w (σ x)) × (1 ≤ count y (ρ w)) → (reading y ≡ var y) × ((z : ℕ) → reading z ≡ var y → y ≤ z)
       go q = (ap (apply ρ) to-w ∙ ap var (sym is-low), lower)
@@ -173,10 +173,10 @@ module _ (σ : Subst) (E : Eqs) (unifies : Unifies σ E) (own : (η : Subst) →
           is-low = count_var y (low w) q.2
 
           to-w : σ y ≡ var w
-          to-w = ap σ is-low ∙ (low-least w (unmoved x w q.1)).0
+          to-w = ap σ is-low ∙ (low_least w (unmoved x w q.1)).0
 
           lower : (z : ℕ) → reading z ≡ var y → y ≤ z
-          lower z p = omega (arith, is-low, (low-least w (unmoved x w q.1)).1 z (v.1 ∙ ap var same))
+          lower z p = omega (arith, is-low, (low_least w (unmoved x w q.1)).1 z (v.1 ∙ ap var same))
             where
               v : (v : ℕ) × (σ z ≡ var v)
               v = was_var ρ (σ z) y p
@@ -185,14 +185,14 @@ module _ (σ : Subst) (E : Eqs) (unifies : Unifies σ E) (own : (η : Subst) →
               low-v = let e : var (low v.0) ≡ var y = sym (ap (apply ρ) v.1) ∙ p in cc
 
               same : v.0 ≡ w
-              same = let e : var v.0 ≡ var w = sym (low-least v.0 (unmoved z v.0 (in_var v.1))).0 ∙ ap σ low-v ∙ to-w in cc
+              same = let e : var v.0 ≡ var w = sym (low_least v.0 (unmoved z v.0 (in_var v.1))).0 ∙ ap σ low-v ∙ to-w in cc
 
-  reading-reads : Reads reading E
-  reading-reads = record {
-    general = record { unifies = instance_unifies ρ σ E unifies; general = λ η u. (η, reading-general η u) };
-    lowest = reading-lowest;
+  reading_reads : Reads reading E
+  reading_reads = record {
+    general = record { unifies = instance_unifies ρ σ E unifies; general = λ η u. (η, reading_general η u) };
+    lowest = reading_lowest;
   }
 
 pub some_reading : (σ : Subst) (E : Eqs) → Unifies σ E → ((η : Subst) → Unifies η E → (x : ℕ) → η x ≡ apply η (σ x))
     → (θ : Subst) × Reads θ E × ((η : Subst) → Reads η E → (x : ℕ) → η x ≡ θ x)
-some_reading σ E u own = (reading σ E u own, reading-reads σ E u own, λ η h. one_reading (reading-reads σ E u own) h)
+some_reading σ E u own = (reading σ E u own, reading_reads σ E u own, λ η h. one_reading (reading_reads σ E u own) h)

@@ -1,14 +1,13 @@
 -- Settled equations show a most general assignment.
 use mathlib.Core.Path.{◌≡◌, refl, sym, ◌∙◌, ap, subst}
-use mathlib.Core.Logic.{◌≢◌}
-use mathlib.Core.List.{List, [], ◌∷◌, ◌++◌}
+use mathlib.Core.List.{[], ◌∷◌, ◌++◌}
 use Prim.Native.Nat.{ℕ, ◌+◌, ◌≤◌}
-use native.Mathlib.Decide.{ℕ_discrete, dec_le}
+use native.Mathlib.Decide.{ℕ_discrete}
 use native.Mathlib.Omega.{arith}
-use Rattle.typing.specs.Terms.{Term, var, con, fun, Equation, ◌≈◌, Eqs, Subst, apply, if, set, count, count_in, Unifies}
-use Rattle.typing.specs.Rules.{Against, on_left, on_right, shown, solution}
+use Rattle.typing.specs.Terms.{Term, var, Equation, Eqs, Subst, apply, if, set, count, count_in, Unifies}
+use Rattle.typing.specs.Rules.{Against, on_left, on_right, solution}
 use Rattle.typing.proofs.Readings.{term_reading, against}
-use Rattle.typing.proofs.Counts.{if_yes, if_no, count_self, count_other, count_var, count_against, same-on, same_unifies, apply-var}
+use Rattle.typing.proofs.Counts.{if_yes, if_no, count_self, count_other, count_against, same_on, same_unifies, apply_var}
 use Rattle.typing.proofs.Heads.{head, heads, head_against, shown_against}
 use Rattle.typing.proofs.Finals.{Bound, Settled}
 
@@ -56,7 +55,7 @@ solution_unifies (e ∷ E) h = go (h [] E e refl) (solution_unifies E (tail_sett
             ∙ still y E (tail_settled h) (settled_apart h y (omega (arith, count_against y B.is)))
 
         first : σ B.x ≡ apply σ B.t
-        first = if_yes (ℕ_discrete B.x B.x) B.t (solution E B.x) refl ∙ sym (same-on σ var B.t unmoved ∙ apply-var B.t)
+        first = if_yes (ℕ_discrete B.x B.x) B.t (solution E B.x) refl ∙ sym (same_on σ var B.t unmoved ∙ apply_var B.t)
 
         rest : Unifies σ E
         rest = same_unifies σ (solution E) E

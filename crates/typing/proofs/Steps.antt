@@ -1,25 +1,24 @@
 -- What a step keeps: the assignments of kinds that fit, and, while the flag stands, the assignments of terms that make alike.
 use mathlib.Core.Path.{◌≡◌, refl, sym, ◌∙◌, ap}
-use mathlib.Core.Logic.{◌↔◌, ◌≢◌}
+use mathlib.Core.Logic.{◌↔◌}
 use mathlib.Core.Bool.{Bool, false≢true}
-use mathlib.Core.List.{List, [], ◌∷◌, ◌++◌}
-use Prim.Native.Nat.{ℕ, ◌+◌}
-use Rattle.typing.specs.Terms.{Term, var, con, fun, Terms, Equation, ◌≈◌, Eqs, arguments, Subst, apply, applies, replaces, KTerm, base, Signature, kinds, Alike, Unifies, Fits}
-use Rattle.typing.specs.Rules.{State, state, Against, Step, same_functions, equal_constants, unequal_constants, same_variable, replacement, Run, stop, step}
-use Rattle.typing.proofs.Readings.{Reading, term_reading, kind_reading, front, back, join, replaces-out, replaces-in, fun-out, fun-in, against}
+use Prim.Native.Nat.{ℕ}
+use Rattle.typing.specs.Terms.{Term, con, Terms, arguments, Subst, apply, replaces, KTerm, base, Signature, Alike, Unifies, Fits}
+use Rattle.typing.specs.Rules.{State, Step, same_functions, equal_constants, unequal_constants, same_variable, replacement, Run, stop, step}
+use Rattle.typing.proofs.Readings.{Reading, term_reading, kind_reading, front, back, join, replaces_out, replaces_in, fun_out, fun_in, against}
 
 module _ {A As : Type 0} {value : Term → A} {values : Terms → As} (R : Reading value values) (kind : Signature) where
   forward : {s s' : State} → Step kind s s' → Alike value s.eqs → Alike value s'.eqs
   forward (same_functions pre post s ts us a) h =
       let k = back value pre _ h in
-      join value pre _ (front value pre _ h) (join value (arguments ts us) _ (fun-out R s ts us k.0) k.1)
+      join value pre _ (front value pre _ h) (join value (arguments ts us) _ (fun_out R s ts us k.0) k.1)
   forward (equal_constants pre post f v) h = join value pre _ (front value pre _ h) (back value pre _ h).1
   forward (unequal_constants pre post f v g w n k) h = join value pre _ (front value pre _ h) (back value pre _ h).1
   forward (same_variable pre post x) h = join value pre _ (front value pre _ h) (back value pre _ h).1
   forward (replacement pre post {x = x} {t = t} a c d) h =
       let k = back value pre _ h in
       let p = against R a k.0 in
-      join value (replaces x t pre) _ (replaces-out R x t p pre (front value pre _ h)) (k.0, replaces-out R x t p post k.1)
+      join value (replaces x t pre) _ (replaces_out R x t p pre (front value pre _ h)) (k.0, replaces_out R x t p post k.1)
 
   -- the converse, where constants that are dropped with the flag are alike
   backward : {s s' : State} → Step kind s s'
@@ -27,14 +26,14 @@ module _ {A As : Type 0} {value : Term → A} {values : Terms → As} (R : Readi
       → Alike value s'.eqs → Alike value s.eqs
   backward (same_functions pre post s ts us a) d h =
       let k = back value pre _ h in
-      join value pre _ (front value pre _ h) (fun-in R s ts us a (front value (arguments ts us) _ k), back value (arguments ts us) _ k)
+      join value pre _ (front value pre _ h) (fun_in R s ts us a (front value (arguments ts us) _ k), back value (arguments ts us) _ k)
   backward (equal_constants pre post f v) d h = join value pre _ (front value pre _ h) (refl, back value pre _ h)
   backward (unequal_constants pre post f v g w n k) d h = join value pre _ (front value pre _ h) (d f v g w k refl, back value pre _ h)
   backward (same_variable pre post x) d h = join value pre _ (front value pre _ h) (refl, back value pre _ h)
   backward (replacement pre post {x = x} {t = t} a c d) dr h =
       let k = back value (replaces x t pre) _ h in
       let p = against R a k.0 in
-      join value pre _ (replaces-in R x t p pre (front value (replaces x t pre) _ h)) (k.0, replaces-in R x t p post k.1)
+      join value pre _ (replaces_in R x t p pre (front value (replaces x t pre) _ h)) (k.0, replaces_in R x t p post k.1)
 
 -- A step keeps which assignments of kinds fit.
 step_fits : (kind : Signature) (κ : ℕ → KTerm) {s s' : State} → Step kind s s' → Fits kind κ s.eqs ↔ Fits kind κ s'.eqs

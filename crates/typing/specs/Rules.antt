@@ -1,5 +1,5 @@
 -- The rules of typed unification, their runs, and what every run comes to.
-use Rattle.std.specs.Prelude.{◌≡◌, ◌↔◌, ◌≢◌, Bool, List, [], ◌∷◌, ◌++◌, ℕ, ◌+◌, ◌≤◌}
+use Rattle.std.specs.Prelude.{◌≡◌, ◌↔◌, ◌≢◌, Bool, [], ◌∷◌, ◌++◌, ℕ, ◌≤◌}
 use mathlib.Core.WellFounded.{Acc}
 use Rattle.typing.specs.Terms.{Term, var, con, fun, Terms, arity, Equation, ◌≈◌, Eqs, arguments, Subst, set, replaces, count, count_in, KTerm, Signature, Unifies, Fits, MostGeneral}
 

@@ -1,8 +1,8 @@
 -- Worked examples: what six lists of equations come to.
 use Rattle.std.specs.Prelude.{List, [], ◌∷◌, ℕ, ◌+◌, get_or}
 use Rattle.std.proofs.Math.Decide.{ℕ_discrete}
-use Rattle.typing.specs.Terms.{Term, var, con, fun, Terms, none, more, ◌≈◌, if, Signature}
-use Rattle.typing.specs.Rules.{Outcome, solved, false, wrong, ComesTo}
+use Rattle.typing.specs.Terms.{Term, var, con, fun, none, more, ◌≈◌, if, Signature}
+use Rattle.typing.specs.Rules.{solved, false, wrong, ComesTo}
 
 -- The form signature, and the declared one: the kind of an atom is 16 and its group.
 abbrev pub form : Signature

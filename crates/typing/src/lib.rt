@@ -1,4 +1,6 @@
 // What the words mean: terms, assignments, kinds, typed unification by rules in every order. Pure definitions and theorems; each theorem stands on a function.
+#![tactic(auto)]
+
 ghost use Rattle.typing.specs.Rules.{EveryOrder};
 ghost use Rattle.typing.specs.Worked.{Worked};
 

@@ -7,10 +7,10 @@ use Rattle.graphs.specs.Graph.{app, Graph, Algebra, Stacked, Solves, onto}
 use Rattle.graphs.specs.Links.{up_of}
 use Rattle.graphs.specs.Meaning.{term_algebra, kind_algebra, Going}
 use Rattle.graphs.specs.Cells.{blank, node_at, graph, arguments}
-use Rattle.graphs.proofs.Turns.{Laws, stacked-append, stacked-left, stacked-right, stacked-onto, onto-stacked, pairs-equal, equal-pairs}
+use Rattle.graphs.proofs.Turns.{Laws, stacked_append, stacked_left, stacked_right, stacked_onto, onto_stacked, pairs_equal, equal_pairs}
 use Rattle.graphs.proofs.Instances.{term_laws, kind_laws}
 use Rattle.graphs.proofs.Grow.{going_push}
-use Rattle.graphs.proofs.CellLaws.{graph-app, arguments_length, node_alive}
+use Rattle.graphs.proofs.CellLaws.{graph_app, arguments_length, node_alive}
 use Rattle.unification.specs.Run.{Within}
 use Rattle.unification.specs.Outcomes.{equation, same_functor, functors_match, opened}
 use Rattle.unification.proofs.Runs.{within_onto}
@@ -20,29 +20,29 @@ module _ (g : Graph) (E : List Pair) (up : ℕ → ℕ) (x y s : ℕ) (ks ls : L
   abbrev whole : List Pair
   whole = record { left = x; right = y } ∷ []
 
-  args-solves : (A : Algebra) → Laws A → Solves A g (λ ρ. Stacked A ρ E) up [] → Solves A g (λ ρ. Stacked A ρ (E ++ whole)) up (onto ks ls [])
-  args-solves A laws sol = record {
+  args_solves : (A : Algebra) → Laws A → Solves A g (λ ρ. Stacked A ρ E) up [] → Solves A g (λ ρ. Stacked A ρ (E ++ whole)) up (onto ks ls [])
+  args_solves A laws sol = record {
     closed = λ n t ms os c d ρ at sat. sol.closed n t ms os c d ρ at (record { linked = sat.linked; stacked = tt });
     same = λ ρ val. (
       (λ sat.
-          let e = pairs-equal A ρ ks ls len (onto-stacked A ρ ks ls [] sat.stacked).0 in
-          stacked-append A ρ E whole ((sol.same ρ val).0 (record { linked = sat.linked; stacked = tt }))
+          let e = pairs_equal A ρ ks ls len (onto_stacked A ρ ks ls [] sat.stacked).0 in
+          stacked_append A ρ E whole ((sol.same ρ val).0 (record { linked = sat.linked; stacked = tt }))
           (val.apps x s ks a ∙ (ap (A.app_t s) e ∙ sym (val.apps y s ls b)), tt)),
       (λ d.
-          let e = (stacked-right A ρ E whole d).0 in
+          let e = (stacked_right A ρ E whole d).0 in
           let i = laws.app_parts s s (map ρ ks) (map ρ ls) (sym (val.apps x s ks a) ∙ (e ∙ val.apps y s ls b)) in
-          record { linked = ((sol.same ρ val).1 (stacked-left A ρ E whole d)).linked; stacked = stacked-onto A ρ ks ls [] (equal-pairs A ρ ks ls i) tt }),
+          record { linked = ((sol.same ρ val).1 (stacked_left A ρ E whole d)).linked; stacked = stacked_onto A ρ ks ls [] (equal_pairs A ρ ks ls i) tt }),
     );
   }
 
-  going-args : (kind : ℕ → ℕ → ℕ) (flag : Bool) → Going kind g E flag up [] → Going kind g (E ++ whole) flag up (onto ks ls [])
-  going-args kind flag going = record {
+  going_args : (kind : ℕ → ℕ → ℕ) (flag : Bool) → Going kind g E flag up [] → Going kind g (E ++ whole) flag up (onto ks ls [])
+  going_args kind flag going = record {
     sound = going.sound;
     tied = going.tied;
     bare = going.bare;
-    on_kinds = args-solves (kind_algebra kind) (kind_laws kind) going.on_kinds;
-    on_terms = λ t. args-solves term_algebra term_laws (going.on_terms t);
-    dead = λ f ρ val d. going.dead f ρ val (stacked-left term_algebra ρ E whole d);
+    on_kinds = args_solves (kind_algebra kind) (kind_laws kind) going.on_kinds;
+    on_terms = λ t. args_solves term_algebra term_laws (going.on_terms t);
+    dead = λ f ρ val d. going.dead f ρ val (stacked_left term_algebra ρ E whole d);
   }
 
 -- what it says that functions match
@@ -88,13 +88,13 @@ going_open kind cs E l left right going = go (functors_match cs left right) refl
         (cond b (onto (arguments cs (get_or cs left blank).arity (left + 1)) (arguments cs (get_or cs left blank).arity (right + 1)) []) (equation cs left right))
     go true e =
         let m = matched cs left right e in
-        let a = graph-app cs left m.left_inside m.left_tag in
-        let b = graph-app cs right m.right_inside m.right_tag in
+        let a = graph_app cs left m.left_inside m.left_tag in
+        let b = graph_app cs right m.right_inside m.right_tag in
         let b' : graph cs right ≡ app (get_or cs left blank).value (arguments cs (get_or cs left blank).arity (right + 1)) = b ∙ (ap (λ v. app v (arguments cs (get_or cs right blank).arity (right + 1))) (sym m.value) ∙ ap (λ k. app (get_or cs left blank).value (arguments cs k (right + 1))) (sym m.arity)) in
         let ks = arguments cs (get_or cs left blank).arity (left + 1) in
         let ls = arguments cs (get_or cs left blank).arity (right + 1) in
         at left right (node_function cs left m.left_tag) (node_function cs right m.right_tag)
-        (going-args (graph cs) E (up_of l) left right (get_or cs left blank).value ks ls a b' (arguments_length cs (get_or cs left blank).arity (left + 1) ∙ sym (arguments_length cs (get_or cs left blank).arity (right + 1))) kind true going)
+        (going_args (graph cs) E (up_of l) left right (get_or cs left blank).value ks ls a b' (arguments_length cs (get_or cs left blank).arity (left + 1) ∙ sym (arguments_length cs (get_or cs left blank).arity (right + 1))) kind true going)
     go false e = going_push kind (graph cs) E (equation cs left right) true (up_of l) going
 
 -- its nodes have links

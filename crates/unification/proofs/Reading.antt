@@ -1,5 +1,5 @@
 -- Reading a variable: the links' solved form is the reading of the equations, and a root is spelt by its cell and its arguments.
-use Rattle.std.proofs.Common.{◌≡◌, ℕ, zero, suc, ◌+◌, ◌-◌, ◌<◌, ◌≤◌, true, ◌⊎◌, List, [], ◌∷◌, ◌++◌, map, length, take, drop, set, Some, None, Option, sym, refl, ap, ◌∙◌, subst, inl, inr, arith}
+use Rattle.std.proofs.Common.{◌≡◌, ℕ, suc, ◌+◌, ◌-◌, ◌<◌, ◌≤◌, true, ◌⊎◌, List, [], ◌∷◌, ◌++◌, map, length, take, drop, set, Some, None, Option, sym, refl, ap, ◌∙◌, subst, inl, inr, arith}
 use Rattle.std.proofs.lemmas.List.{append_assoc, length-append, length-take-le, take_at, drop_at, drop-drop, set_split, take-append-drop, get_or_past, length-set}
 use Rattle.typing.specs.Terms.{Term, Terms, var, con, fun, none, more, Eqs, Subst, apply, applies, Signature, MostGeneral}
 use Rattle.typing.specs.Terms as Typing
@@ -12,15 +12,15 @@ use Rattle.graphs.specs.Graph.{Shape, free, atom, app, find, solution}
 use Rattle.graphs.specs.Links.{up_of}
 use Rattle.graphs.specs.Meaning.{arena, term_algebra, answer}
 use Rattle.graphs.specs.Cells.{graph, node_at, after, arguments}
-use Rattle.graphs.specs.Flat.{flat, flats, count}
-use Rattle.graphs.proofs.Arena.{app-arguments}
+use Rattle.graphs.specs.Flat.{flat, count}
+use Rattle.graphs.proofs.Arena.{app_arguments}
 use Rattle.graphs.proofs.CellLaws.{arguments_length}
-use Rattle.graphs.proofs.Final.{solution-values, solution-linked, solution-free}
-use Rattle.graphs.proofs.Outcomes.{told-solved, answer-lowest}
-use Rattle.graphs.proofs.Walks.{walk-fixed, walk-keeps}
+use Rattle.graphs.proofs.Final.{solution_values, solution_linked, solution_free}
+use Rattle.graphs.proofs.Outcomes.{told_solved, answer_lowest}
+use Rattle.graphs.proofs.Walks.{walk_fixed, walk_keeps}
 use Rattle.unification.specs.Standing.{Standing}
 use Rattle.unification.specs.Reading.{SolvedForm, head_of, spelt, Counts, Counting, spliced, Writes, Writing, Written, ReadsVariable}
-use Rattle.unification.proofs.Standing.{unifies-in, unifies-out}
+use Rattle.unification.proofs.Standing.{unifies_in, unifies_out}
 
 -- a variable that stands in what an assignment leaves as it is stands for itself
 mutual
@@ -51,30 +51,30 @@ module _ (kind : Signature) (cs : List Cell) (small : length cs ≤ 1568) (l : L
   abbrev ρ : ℕ → Term
   ρ = solution term_algebra (λ n. var (n - arena)) (graph cs) (up_of l) rank
 
-  answer-unifies : Typing.Unifies θ E
-  answer-unifies = subst (Typing.Unifies θ) s.equations (unifies-in cs θ s.pairs (told-solved kind cs small s.pairs s.live true l s.going rank s.acyclic.1 refl).unifies)
+  answer_unifies : Typing.Unifies θ E
+  answer_unifies = subst (Typing.Unifies θ) s.equations (unifies_in cs θ s.pairs (told_solved kind cs small s.pairs s.live true l s.going rank s.acyclic.1 refl).unifies)
 
-  answer-general : (η : Subst) → Typing.Unifies η E → (x : ℕ) → η x ≡ apply η (θ x)
-  answer-general η u =
-      (told-solved kind cs small s.pairs s.live true l s.going rank s.acyclic.1 refl).general η (unifies-out cs η s.pairs (subst (Typing.Unifies η) (sym s.equations) u))
+  answer_general : (η : Subst) → Typing.Unifies η E → (x : ℕ) → η x ≡ apply η (θ x)
+  answer_general η u =
+      (told_solved kind cs small s.pairs s.live true l s.going rank s.acyclic.1 refl).general η (unifies_out cs η s.pairs (subst (Typing.Unifies η) (sym s.equations) u))
 
   -- the solved form is the reading
-  pub answer-reads : Reads θ E
-  answer-reads = record {
-    general = record { unifies = answer-unifies; general = λ η u. (η, answer-general η u) };
-    lowest = λ x y c. (stays θ y (θ x) (sym (answer-general θ answer-unifies x)) c, λ z e. (answer-lowest cs small l rank s.going.sound s.going.tied s.acyclic.1).least z y e);
+  pub answer_reads : Reads θ E
+  answer_reads = record {
+    general = record { unifies = answer_unifies; general = λ η u. (η, answer_general η u) };
+    lowest = λ x y c. (stays θ y (θ x) (sym (answer_general θ answer_unifies x)) c, λ z e. (answer_lowest cs small l rank s.going.sound s.going.tied s.acyclic.1).least z y e);
   }
 
-  pub answer-form : SolvedForm cs l ρ
-  answer-form = record {
-    values = solution-values term_algebra (λ n. var (n - arena)) (graph cs) (up_of l) rank s.going.sound s.acyclic.1 (s.going.on_terms refl).closed;
-    linked = solution-linked term_algebra (λ n. var (n - arena)) (graph cs) (up_of l) rank s.going.sound s.acyclic.1;
-    bare = λ r top q. solution-free term_algebra (λ n. var (n - arena)) (graph cs) (up_of l) rank s.going.sound s.acyclic.1 r top q;
+  pub answer_form : SolvedForm cs l ρ
+  answer_form = record {
+    values = solution_values term_algebra (λ n. var (n - arena)) (graph cs) (up_of l) rank s.going.sound s.acyclic.1 (s.going.on_terms refl).closed;
+    linked = solution_linked term_algebra (λ n. var (n - arena)) (graph cs) (up_of l) rank s.going.sound s.acyclic.1;
+    bare = λ r top q. solution_free term_algebra (λ n. var (n - arena)) (graph cs) (up_of l) rank s.going.sound s.acyclic.1 r top q;
   }
 
 -- a node past the end is its own root
 pub root_past : (l : List ℕ) (n : ℕ) → length l ≤ n → (n ≡ find (up_of l) n) × (up_of l n ≡ n)
-root_past l n h = let e = get_or_past l n n h in (sym (walk-fixed (up_of l) n n e), e)
+root_past l n h = let e = get_or_past l n n h in (sym (walk_fixed (up_of l) n n e), e)
 
 count_pack : (ρ : ℕ → Term) (ks : List ℕ) → count (pack (map ρ ks)) ≡ length ks
 count_pack ρ [] = refl
@@ -82,14 +82,14 @@ count_pack ρ (k ∷ ks) = ap suc (count_pack ρ ks)
 
 module _ (cs : List Cell) (small : length cs ≤ 1568) (l : List ℕ) (ρ : ℕ → Term) (s : SolvedForm cs l ρ) where
   -- a root is spelt by its first cell and its arguments
-  root-spelt : (r : ℕ) → up_of l r ≡ r → flat (ρ r) ≡ head_of (graph cs r) r ∷ spelt ρ (arguments cs (head_of (graph cs r) r).arity (r + 1))
-  root-spelt r top = go (graph cs r) refl
+  root_spelt : (r : ℕ) → up_of l r ≡ r → flat (ρ r) ≡ head_of (graph cs r) r ∷ spelt ρ (arguments cs (head_of (graph cs r) r).arity (r + 1))
+  root_spelt r top = go (graph cs r) refl
     where
       go : (sh : Shape) → graph cs r ≡ sh → flat (ρ r) ≡ head_of sh r ∷ spelt ρ (arguments cs (head_of sh r).arity (r + 1))
       go free q = ap flat (s.bare r top q)
       go (atom f v) q = ap flat (s.values.atoms r f v q)
       go (app t ks) q =
-          let a = app-arguments cs small r t ks q in
+          let a = app_arguments cs small r t ks q in
           let n = ap length a ∙ arguments_length cs _ (r + 1) in
           let e : ks ≡ arguments cs (length ks) (r + 1) = a ∙ ap (λ m. arguments cs m (r + 1)) (sym n) in
           ap flat (s.values.apps r t ks q)
@@ -97,9 +97,9 @@ module _ (cs : List Cell) (small : length cs ≤ 1568) (l : List ℕ) (ρ : ℕ 
           ∙ ap (λ (xs : List ℕ). record { tag = 2; form = 0; arity = length ks; value = t } ∷ spelt ρ xs) e)
 
   -- and so is every node that it stands for
-  pub node-spelt : (n r : ℕ) (c : Cell) → r ≡ find (up_of l) n → up_of l r ≡ r → c ≡ head_of (graph cs r) r → flat (ρ n) ≡ c ∷ spelt ρ (arguments cs c.arity (r + 1))
-  node-spelt n r c re top ce =
-      ap flat (walk-keeps (up_of l) ρ s.linked n n ∙ ap ρ (sym re)) ∙ (root-spelt r top ∙ ap (λ x. x ∷ spelt ρ (arguments cs x.arity (r + 1))) (sym ce))
+  pub node_spelt : (n r : ℕ) (c : Cell) → r ≡ find (up_of l) n → up_of l r ≡ r → c ≡ head_of (graph cs r) r → flat (ρ n) ≡ c ∷ spelt ρ (arguments cs c.arity (r + 1))
+  node_spelt n r c re top ce =
+      ap flat (walk_keeps (up_of l) ρ s.linked n n ∙ ap ρ (sym re)) ∙ (root_spelt r top ∙ ap (λ x. x ∷ spelt ρ (arguments cs x.arity (r + 1))) (sym ce))
 
 -- the spelling of the arguments from one on
 pub spelt_more : (ρ : ℕ → Term) (cs : List Cell) (n i place : ℕ) → i < n
@@ -136,12 +136,12 @@ splice_set out at c ys h =
 
 -- the arguments of a root, counted one after another
 module _ (cs : List Cell) (l : List ℕ) (r n : ℕ) where
-  pub count-start : (room : ℕ) → 0 < room → Counting cs l r n room (room - 1) (r + 1) 0
-  count-start room h = (omega arith, λ ρ s. let z : n - 0 ≡ n = omega arith in let e = ap (λ m. length (spelt ρ (arguments cs m (r + 1)))) z in omega arith)
+  pub count_start : (room : ℕ) → 0 < room → Counting cs l r n room (room - 1) (r + 1) 0
+  count_start room h = (omega arith, λ ρ s. let z : n - 0 ≡ n = omega arith in let e = ap (λ m. length (spelt ρ (arguments cs m (r + 1)))) z in omega arith)
 
   module _ (room rest place i : ℕ) (inv : Counting cs l r n room rest place i) where
-    pub count-more : i < n → (k : ℕ) → k < rest → Counts cs l (node_at cs place) rest (Some k) → Counting cs l r n room k (after cs place) (i + 1)
-    count-more h k less w =
+    pub count_more : i < n → (k : ℕ) → k < rest → Counts cs l (node_at cs place) rest (Some k) → Counting cs l r n room k (after cs place) (i + 1)
+    count_more h k less w =
         let a = inv.0 in (
           omega arith,
           λ ρ s.
@@ -152,16 +152,16 @@ module _ (cs : List Cell) (l : List ℕ) (r n : ℕ) where
     module _ (small : length cs ≤ 1568) (node : ℕ) (c : Cell) (re : r ≡ find (up_of l) node) (top : up_of l r ≡ r) (ce : c ≡ head_of (graph cs r) r) (ne : n ≡ c.arity) where
       whole_length : (ρ : ℕ → Term) → SolvedForm cs l ρ → length (flat (ρ node)) ≡ 1 + length (spelt ρ (arguments cs n (r + 1)))
       whole_length ρ s =
-          let f : length (flat (ρ node)) ≡ 1 + length (spelt ρ (arguments cs c.arity (r + 1))) = ap length (node-spelt cs small l ρ s node r c re top ce) ∙ (omega arith) in
+          let f : length (flat (ρ node)) ≡ 1 + length (spelt ρ (arguments cs c.arity (r + 1))) = ap length (node_spelt cs small l ρ s node r c re top ce) ∙ (omega arith) in
           f ∙ ap (λ m. 1 + length (spelt ρ (arguments cs m (r + 1)))) (sym ne)
 
-      pub count-short : i < n → Counts cs l (node_at cs place) rest None → Counts cs l node room None
-      count-short h w ρ s =
+      pub count_short : i < n → Counts cs l (node_at cs place) rest None → Counts cs l node room None
+      count_short h w ρ s =
           let e = ap length (spelt_more ρ cs n i place h) ∙ length-append (flat (ρ (node_at cs place))) (spelt ρ (arguments cs (n - (i + 1)) (after cs place))) in
           let b = inv.1 ρ s in let d = w ρ s in let f = whole_length ρ s in omega arith
 
-      pub count-end : n ≤ i → Counts cs l node room (Some rest)
-      count-end h ρ s =
+      pub count_end : n ≤ i → Counts cs l node room (Some rest)
+      count_end h ρ s =
           let e = ap length (spelt_none ρ cs n i place h) in let b = inv.1 ρ s in let f = whole_length ρ s in omega arith
 
 -- a spelling is not empty
@@ -175,8 +175,8 @@ count_none cs l node room z ρ s = let a = flat_some (ρ node) in omega arith
 
 -- and written one after another
 module _ (cs : List Cell) (l : List ℕ) (r n : ℕ) (out₀ : List Cell) (at₀ : ℕ) where
-  pub write-start : Writing cs l r n out₀ at₀ out₀ at₀ (r + 1) 0
-  write-start = (
+  pub write_start : Writing cs l r n out₀ at₀ out₀ at₀ (r + 1) 0
+  write_start = (
     refl,
     omega arith,
     λ ρ s h.
@@ -185,8 +185,8 @@ module _ (cs : List Cell) (l : List ℕ) (r n : ℕ) (out₀ : List Cell) (at₀
   )
 
   module _ (out : List Cell) (at place i : ℕ) (inv : Writing cs l r n out₀ at₀ out at place i) where
-    pub write-more : i < n → (out' : List Cell) (at' : ℕ) → length out' ≡ length out → at ≤ at' → Writes cs l (node_at cs place) out at out' at' → Writing cs l r n out₀ at₀ out' at' (after cs place) (i + 1)
-    write-more h out' at' le on w =
+    pub write_more : i < n → (out' : List Cell) (at' : ℕ) → length out' ≡ length out → at ≤ at' → Writes cs l (node_at cs place) out at out' at' → Writing cs l r n out₀ at₀ out' at' (after cs place) (i + 1)
+    write_more h out' at' le on w =
         let a = inv.0 in let b = inv.1 in (
           omega arith,
           omega arith,
@@ -205,7 +205,7 @@ pub write_end : (cs : List Cell) → length cs ≤ 1568 → (l : List ℕ) (node
     → at < length out → Writing cs l r n (set out at c) (at + 1) out' at' place i → n ≤ i → Writes cs l node out at out' at'
 write_end cs small l node r n c out at out' at' place i re top ce ne h inv e ρ s fit =
     let all = spelt ρ (arguments cs n (r + 1)) in
-    let f : flat (ρ node) ≡ c ∷ all = node-spelt cs small l ρ s node r c re top ce ∙ ap (λ m. c ∷ spelt ρ (arguments cs m (r + 1))) (sym ne) in
+    let f : flat (ρ node) ≡ c ∷ all = node_spelt cs small l ρ s node r c re top ce ∙ ap (λ m. c ∷ spelt ρ (arguments cs m (r + 1))) (sym ne) in
     let k : length (flat (ρ node)) ≡ 1 + length all = ap length f ∙ (omega arith) in
     let j = length-set out at c in
     let v = inv.2 ρ s (omega arith) in let v0 = v.0 in
@@ -221,8 +221,8 @@ write_full cs l node out at h ρ s fit = absurd (let a = flat_some (ρ node) in 
 pub form_reads : (cs : List Cell) → length cs ≤ 1568 → (l : List ℕ) (v : ℕ) (out : List Cell) (r : Option ℕ) (out' : List Cell)
     → ((ρ : ℕ → Term) → SolvedForm cs l ρ → Written (flat (ρ (arena + v))) out r out') → ReadsVariable cs l v out r out'
 form_reads cs small l v out r out' w kind E θ s reads =
-    let e = one_reading (answer-reads kind cs small l E s) reads v in
-    subst (λ t. Written (flat t) out r out') (sym e) (w _ (answer-form kind cs small l E s))
+    let e = one_reading (answer_reads kind cs small l E s) reads v in
+    subst (λ t. Written (flat t) out r out') (sym e) (w _ (answer_form kind cs small l E s))
 
 -- what both walks tell of a variable's node
 module _ (cs cs' : List Cell) (small : length cs ≤ 1568) (l l' : List ℕ) (v : ℕ) (out : List Cell) (ce : cs' ≡ cs) (le : l' ≡ l) where

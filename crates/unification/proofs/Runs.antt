@@ -1,5 +1,5 @@
-use Rattle.std.proofs.Common.{◌≡◌, ℕ, zero, suc, ◌+◌, ◌-◌, ◌*◌, ◌<◌, ◌≤◌, Bool, true, false, cond, ◌&&◌, eqb, ltb, ◌≢◌, ◌⊎◌, List, [], ◌∷◌, ◌++◌, map, length, get_or, set, sym, refl, ap, ◌∙◌, subst, inl, inr, arith, lt-ltb, eq-eqb}
-use native.Mathlib.Decide.{dec_lt, ℕ_discrete}
+use Rattle.std.proofs.Common.{◌≡◌, ℕ, zero, suc, ◌+◌, ◌<◌, ◌≤◌, Bool, true, false, ◌&&◌, eqb, ltb, ◌≢◌, List, ◌∷◌, length, get_or, set, sym, refl, ap, ◌∙◌, subst, inl, arith, lt-ltb, eq-eqb}
+use native.Mathlib.Decide.{ℕ_discrete}
 use Rattle.std.proofs.lemmas.Bool.{and_from}
 use Rattle.std.proofs.lemmas.List.{length-set}
 use Rattle.terms.specs.declared.Cell.{Cell}
@@ -8,18 +8,17 @@ use Rattle.unification.specs.declared.solve.Meet.TheVariants.{Bind, Same, Unequa
 use Rattle.unification.specs.declared.solve.Turn.{Turn}
 use Rattle.unification.specs.declared.solve.Turn.TheVariants.{Plain, Deep, Differ, Wrong}
 use Rattle.unification.specs.declared.solve.Tally.{Tally}
-use Rattle.graphs.specs.Terms.{KTerm}
-use Rattle.graphs.specs.Graph.{Shape, free, atom, app, Graph, Values, Stacked, Tie, find, onto, Acyclic}
+use Rattle.graphs.specs.Graph.{app, Stacked, Tie, find, onto, Acyclic}
 use Rattle.graphs.specs.Links.{up_of, weight, Down}
 use Rattle.graphs.specs.Meaning.{arena, kind_algebra, Going, Live}
 use Rattle.graphs.specs.Cells.{blank, node_at, graph, arity_sh, owes, arguments, after}
-use Rattle.unification.specs.Run.{Meets, Node, Within, fuel, Ready, Kept, Lost, Orderly, same_flag, flag_off, Went, Turned, is_wrong, tallied}
+use Rattle.unification.specs.Run.{Meets, Within, fuel, Ready, Lost, Orderly, same_flag, flag_off, Went, Turned, is_wrong, tallied}
 use Rattle.graphs.proofs.Lists.{set_linked, weight_root}
 use Rattle.graphs.proofs.CellLaws.{arguments_length, app_inside, node_alive}
-use Rattle.graphs.proofs.Arena.{app-tag}
-use Rattle.graphs.proofs.Cycle.{plain-acyclic}
-use Rattle.graphs.proofs.Turns.{clash-turn}
-use Rattle.graphs.proofs.Loop.{same_turn, equal-turn, unequal-turn, variable-turn, function-turn}
+use Rattle.graphs.proofs.Arena.{app_tag}
+use Rattle.graphs.proofs.Cycle.{plain_acyclic}
+use Rattle.graphs.proofs.Turns.{clash_turn}
+use Rattle.graphs.proofs.Loop.{same_turn, equal_turn, unequal_turn, variable_turn, function_turn}
 
 pub within_onto : (cs : List Cell) (m n x y : ℕ) (st : List Pair) → length cs ≤ 1568 → ((p : ℕ) → node_at cs p < m) → Within cs m st → Within cs m (onto (arguments cs n x) (arguments cs n y) st)
 within_onto cs m zero x y st small named w = w
@@ -41,8 +40,8 @@ set_down l r q inside above down k = go (ℕ_discrete k r)
 
 -- one pair by its two roots
 module _ (cs : List Cell) (l : List ℕ) (st : List Pair) (n m r q : ℕ) (ready : Ready cs l st n m) (above : q < r) (inside : r < length l) (top : up_of l r ≡ r) where
-  pub room-args : (t k : ℕ) → graph cs r ≡ app t (arguments cs k (r + 1)) → n + k ≤ m
-  room-args t k e =
+  pub room_args : (t k : ℕ) → graph cs r ≡ app t (arguments cs k (r + 1)) → n + k ≤ m
+  room_args t k e =
       let w = weight_root (owes cs) l r q inside top above in let o = owes_app cs r t k (r + 1) e in let h = ready.room in omega arith
 
   relinked : (st' : List Pair) (k : ℕ) → Within cs (length l) st' → weight (owes cs) 0 (set l r q) + k ≤ m → Ready cs (set l r q) st' k m
@@ -57,47 +56,47 @@ module _ (cs : List Cell) (l : List ℕ) (st : List Pair) (n m r q : ℕ) (ready
       }
 
   -- a variable's root linked to no function keeps what is in order
-  pub plain-link : (kind : ℕ → ℕ → ℕ) → Meets kind cs r q Bind → up_of l q ≡ q → (ltb q (length cs) && eqb (get_or cs q blank).tag 2) ≡ false → (l' : List ℕ) → l' ≡ set l r q → Orderly cs l l'
-  plain-link kind f lower other l' le order = subst (λ x. Acyclic (graph cs) (up_of x)) (sym le)
-      (plain-acyclic (graph cs) (up_of l) (up_of (set l r q)) r q ready.down (set_linked l r q inside) top lower above f
-      (λ s ks e. let i = app_inside cs q s ks e in let t = app-tag cs ready.small q s ks e in
+  pub plain_link : (kind : ℕ → ℕ → ℕ) → Meets kind cs r q Bind → up_of l q ≡ q → (ltb q (length cs) && eqb (get_or cs q blank).tag 2) ≡ false → (l' : List ℕ) → l' ≡ set l r q → Orderly cs l l'
+  plain_link kind f lower other l' le order = subst (λ x. Acyclic (graph cs) (up_of x)) (sym le)
+      (plain_acyclic (graph cs) (up_of l) (up_of (set l r q)) r q ready.down (set_linked l r q inside) top lower above f
+      (λ s ks e. let i = app_inside cs q s ks e in let t = app_tag cs ready.small q s ks e in
       let y = and_from (ltb q (length cs)) (eqb (get_or cs q blank).tag 2) (lt-ltb q (length cs) i) (eq-eqb (get_or cs q blank).tag 2 t) in
       let b : ◌≡◌ {A = Bool} true false = sym y ∙ other in let z : ◌≡◌ {A = ℕ} 0 1 = cc in omega arith)
       order.0 order.1)
 
   module _ (p : Pair) (tie : Tie (up_of l) p r q) (left : Live arena (graph cs) p.left) (right : Live arena (graph cs) p.right) (kind : ℕ → ℕ → ℕ) where
-    pub join-bind : Meets kind cs r q Bind → (l' : List ℕ) → l' ≡ set l r q → Went kind cs l (p ∷ st) (n + 1) l' st n m same_flag
-    join-bind f l' le =
+    pub join_bind : Meets kind cs r q Bind → (l' : List ℕ) → l' ≡ set l r q → Went kind cs l (p ∷ st) (n + 1) l' st n m same_flag
+    join_bind f l' le =
         let w = weight_root (owes cs) l r q inside top above in
         let w' = weight_root (fuel cs) l r q inside top above in
         let h = ready.room in
         subst (λ x. Went kind cs l (p ∷ st) (n + 1) x st n m same_flag) (sym le) (record {
           ready = relinked st n ready.within (omega arith);
-          kept = λ E flag going. variable-turn kind (graph cs) E flag (up_of l) st p going r q tie (up_of (set l r q)) top (set_linked l r q inside) (omega arith) left right f;
+          kept = λ E flag going. variable_turn kind (graph cs) E flag (up_of l) st p going r q tie (up_of (set l r q)) top (set_linked l r q inside) (omega arith) left right f;
           less = omega arith;
         })
 
-    pub join-same : Meets kind cs r q Same → Went kind cs l (p ∷ st) (n + 1) l st n m same_flag
-    join-same w =
+    pub join_same : Meets kind cs r q Same → Went kind cs l (p ∷ st) (n + 1) l st n m same_flag
+    join_same w =
         record {
           ready = ready;
-          kept = λ E flag going. equal-turn kind (graph cs) E flag (up_of l) st p going r q tie w.0 w.1 w.2.0 w.2.1;
+          kept = λ E flag going. equal_turn kind (graph cs) E flag (up_of l) st p going r q tie w.0 w.1 w.2.0 w.2.1;
           less = omega arith;
         }
 
-    pub join-unequal : Meets kind cs r q Unequal → Went kind cs l (p ∷ st) (n + 1) l st n m flag_off
-    join-unequal w =
+    pub join_unequal : Meets kind cs r q Unequal → Went kind cs l (p ∷ st) (n + 1) l st n m flag_off
+    join_unequal w =
         record {
           ready = ready;
-          kept = λ E flag going. unequal-turn kind (graph cs) E flag (up_of l) st p going r q tie w.0 w.1 w.2 w.3 w.4.0 w.4.1 w.4.2 w.4.3;
+          kept = λ E flag going. unequal_turn kind (graph cs) E flag (up_of l) st p going r q tie w.0 w.1 w.2 w.3 w.4.0 w.4.1 w.4.2 w.4.3;
           less = omega arith;
         }
 
-    pub join-clash : Meets kind cs r q Clash → Lost kind cs l (p ∷ st)
-    join-clash w E flag going = clash-turn (kind_algebra kind) (graph cs) (λ ρ. Stacked (kind_algebra kind) ρ E) (up_of l) st p going.on_kinds r q tie w
+    pub join_clash : Meets kind cs r q Clash → Lost kind cs l (p ∷ st)
+    join_clash w E flag going = clash_turn (kind_algebra kind) (graph cs) (λ ρ. Stacked (kind_algebra kind) ρ E) (up_of l) st p going.on_kinds r q tie w
 
-    linked-args : (k : ℕ) → Meets kind cs r q (Args k) → Went kind cs l (p ∷ st) (n + 1) (set l r q) (onto (arguments cs k (r + 1)) (arguments cs k (q + 1)) st) (n + k) m same_flag
-    linked-args k a =
+    linked_args : (k : ℕ) → Meets kind cs r q (Args k) → Went kind cs l (p ∷ st) (n + 1) (set l r q) (onto (arguments cs k (r + 1)) (arguments cs k (q + 1)) st) (n + k) m same_flag
+    linked_args k a =
         let t = a.0 in let ks = arguments cs k (r + 1) in let ls = arguments cs k (q + 1) in
         let w = weight_root (owes cs) l r q inside top above in
         let w' = weight_root (fuel cs) l r q inside top above in
@@ -106,28 +105,28 @@ module _ (cs : List Cell) (l : List ℕ) (st : List Pair) (n m r q : ℕ) (ready
         let e : length ks ≡ length ls = arguments_length cs k (r + 1) ∙ sym (arguments_length cs k (q + 1)) in
         record {
           ready = relinked (onto ks ls st) (n + k) (within_onto cs (length l) k (r + 1) (q + 1) st ready.small ready.named ready.within) (omega arith);
-          kept = λ E flag going. function-turn kind (graph cs) E flag (up_of l) st p going r q tie (up_of (set l r q)) top (set_linked l r q inside) (omega arith) left right t ks ls a.1.0 a.1.1 e;
+          kept = λ E flag going. function_turn kind (graph cs) E flag (up_of l) st p going r q tie (up_of (set l r q)) top (set_linked l r q inside) (omega arith) left right t ks ls a.1.0 a.1.1 e;
           less = omega arith;
         }
 
-    pub join-args : (k : ℕ) → Meets kind cs r q (Args k) → (l' : List ℕ) → l' ≡ set l r q → (st' : List Pair) → st' ≡ onto (arguments cs k (r + 1)) (arguments cs k (q + 1)) st
+    pub join_args : (k : ℕ) → Meets kind cs r q (Args k) → (l' : List ℕ) → l' ≡ set l r q → (st' : List Pair) → st' ≡ onto (arguments cs k (r + 1)) (arguments cs k (q + 1)) st
         → (n' : ℕ) → n' ≡ n + k → (m' : ℕ) → m' ≡ m → Went kind cs l (p ∷ st) (n + 1) l' st' n' m' same_flag
-    join-args k a l' le st' se n' ne m' me =
+    join_args k a l' le st' se n' ne m' me =
         subst (λ x. Went kind cs l (p ∷ st) (n + 1) x st' n' m' same_flag) (sym le)
         (subst (λ x. Went kind cs l (p ∷ st) (n + 1) (set l r q) x n' m' same_flag) (sym se)
         (subst (λ x. Went kind cs l (p ∷ st) (n + 1) (set l r q) (onto (arguments cs k (r + 1)) (arguments cs k (q + 1)) st) x m' same_flag) (sym ne)
-        (subst (λ x. Went kind cs l (p ∷ st) (n + 1) (set l r q) (onto (arguments cs k (r + 1)) (arguments cs k (q + 1)) st) (n + k) x same_flag) (sym me) (linked-args k a))))
+        (subst (λ x. Went kind cs l (p ∷ st) (n + 1) (set l r q) (onto (arguments cs k (r + 1)) (arguments cs k (q + 1)) st) (n + k) x same_flag) (sym me) (linked_args k a))))
 
 -- the newest pair
 module _ (cs : List Cell) (l : List ℕ) (p : Pair) (st : List Pair) (n m : ℕ) (ready : Ready cs l (p ∷ st) (n + 1) m) where
-  pub rest-ready : Ready cs l st n m
-  rest-ready = let h = ready.room in
+  pub rest_ready : Ready cs l st n m
+  rest_ready = let h = ready.room in
       record { small = ready.small; down = ready.down; named = ready.named; room = omega arith; within = ready.within.2 }
 
-  pub same-went : (kind : ℕ → ℕ → ℕ) → find (up_of l) p.left ≡ find (up_of l) p.right → Went kind cs l (p ∷ st) (n + 1) l st n m same_flag
-  same-went kind e =
+  pub same_went : (kind : ℕ → ℕ → ℕ) → find (up_of l) p.left ≡ find (up_of l) p.right → Went kind cs l (p ∷ st) (n + 1) l st n m same_flag
+  same_went kind e =
       record {
-        ready = rest-ready;
+        ready = rest_ready;
         kept = λ E flag going. same_turn kind (graph cs) E flag (up_of l) st p going (find (up_of l) p.left) (find (up_of l) p.right) (inl (refl, refl)) e;
         less = omega arith;
       }

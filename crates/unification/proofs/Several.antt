@@ -1,5 +1,5 @@
 -- Several equations at once: what is stacked is ready, and stands for all of them.
-use Rattle.std.proofs.Common.{◌≡◌, ℕ, ◌+◌, ◌<◌, ◌≤◌, true, List, [], ◌∷◌, ◌++◌, length, get_or, drop, sym, refl, ap, ◌∙◌, subst, arith}
+use Rattle.std.proofs.Common.{◌≡◌, ℕ, ◌+◌, ◌<◌, ◌≤◌, true, List, [], ◌∷◌, ◌++◌, length, get_or, drop, sym, ap, ◌∙◌, subst, arith}
 use Rattle.std.proofs.lemmas.List.{append-nil, append_assoc, at_drop_more, at_drop_all}
 use Rattle.typing.specs.Terms.{Term, ◌≈◌, Eqs}
 use Rattle.typing.specs.Terms as Typing
@@ -17,11 +17,11 @@ use Rattle.unification.specs.Outcomes.{Tells, Leads}
 use Rattle.unification.specs.Standing.{named, between, decoded, Standing}
 use Rattle.unification.specs.Several.{stacked, SpeltAt, UnifiedAll}
 use Rattle.graphs.proofs.CellLaws.{node_alive}
-use Rattle.graphs.proofs.Flats.{stands-decode}
+use Rattle.graphs.proofs.Flats.{stands_decode}
 use Rattle.graphs.proofs.Grow.{going_push}
 use Rattle.graphs.proofs.Wholes.{node_below, owes_room}
 use Rattle.unification.proofs.Settled.{live_append}
-use Rattle.unification.proofs.Standing.{told-means}
+use Rattle.unification.proofs.Standing.{told_means}
 
 abbrev nowhere : Equation
 nowhere = record { left = 0; right = 0 }
@@ -47,25 +47,25 @@ sides t u q a b = ap (λ x. x ≈ u) a ∙ ap (λ x. q.left ≈ x) b
 
 module _ (cs : List Cell) (small : length cs ≤ 1568) where
   -- what is stacked stands for the equations of the places, in their order
-  decoded-stacked : (es : List Equation) (st : List Pair) (F : Eqs) → SpeltAt cs es F → decoded cs (stacked cs es st) ≡ decoded cs st ++ F
-  decoded-stacked [] st [] s = sym (append-nil (decoded cs st))
-  decoded-stacked [] st (q ∷ F) s = absurd s
-  decoded-stacked (e ∷ es) st [] s = absurd s
-  decoded-stacked (e ∷ es) st (q ∷ F) s =
+  decoded_stacked : (es : List Equation) (st : List Pair) (F : Eqs) → SpeltAt cs es F → decoded cs (stacked cs es st) ≡ decoded cs st ++ F
+  decoded_stacked [] st [] s = sym (append-nil (decoded cs st))
+  decoded_stacked [] st (q ∷ F) s = absurd s
+  decoded_stacked (e ∷ es) st [] s = absurd s
+  decoded_stacked (e ∷ es) st (q ∷ F) s =
       let p : Pair = record { left = node_at cs e.left; right = node_at cs e.right } in
-      let a = stands-decode cs small e.left q.left s.0 in
-      let b = stands-decode cs small e.right q.right s.1 in
+      let a = stands_decode cs small e.left q.left s.0 in
+      let b = stands_decode cs small e.right q.right s.1 in
       let same : between cs p ≡ q = sides (decode arena (graph cs) p.left) (decode arena (graph cs) p.right) q a b in
-      decoded-stacked es (p ∷ st) F s.2 ∙ (append_assoc (decoded cs st) (between cs p ∷ []) F ∙ ap (λ x. decoded cs st ++ (x ∷ F)) same)
+      decoded_stacked es (p ∷ st) F s.2 ∙ (append_assoc (decoded cs st) (between cs p ∷ []) F ∙ ap (λ x. decoded cs st ++ (x ∷ F)) same)
 
-  live-stacked : (es : List Equation) (st : List Pair) → AllLive arena (graph cs) st → AllLive arena (graph cs) (stacked cs es st)
-  live-stacked [] st a = a
-  live-stacked (e ∷ es) st a = live-stacked es (record { left = node_at cs e.left; right = node_at cs e.right } ∷ st) (node_alive cs small e.left, node_alive cs small e.right, a)
+  live_stacked : (es : List Equation) (st : List Pair) → AllLive arena (graph cs) st → AllLive arena (graph cs) (stacked cs es st)
+  live_stacked [] st a = a
+  live_stacked (e ∷ es) st a = live_stacked es (record { left = node_at cs e.left; right = node_at cs e.right } ∷ st) (node_alive cs small e.left, node_alive cs small e.right, a)
 
-  within-stacked : (m : ℕ) → ((p : ℕ) → node_at cs p < m) → (es : List Equation) (st : List Pair) → Within cs m st → Within cs m (stacked cs es st)
-  within-stacked m bound [] st w = w
-  within-stacked m bound (e ∷ es) st w =
-      within-stacked m bound es (record { left = node_at cs e.left; right = node_at cs e.right } ∷ st)
+  within_stacked : (m : ℕ) → ((p : ℕ) → node_at cs p < m) → (es : List Equation) (st : List Pair) → Within cs m st → Within cs m (stacked cs es st)
+  within_stacked m bound [] st w = w
+  within_stacked m bound (e ∷ es) st w =
+      within_stacked m bound es (record { left = node_at cs e.left; right = node_at cs e.right } ∷ st)
       ((bound e.left, node_alive cs small e.left), (bound e.right, node_alive cs small e.right), w)
 
   -- all equations added
@@ -74,28 +74,28 @@ module _ (cs : List Cell) (small : length cs ≤ 1568) where
       abbrev all : List Pair
       all = s.pairs ++ stacked cs es []
 
-      all-equations : decoded cs all ≡ F ++ E
-      all-equations =
-          decoded_append cs s.pairs (stacked cs es []) ∙ (ap (λ (x : Eqs). x ++ decoded cs s.pairs) (decoded-stacked es [] F spelt) ∙ ap (λ (x : Eqs). F ++ x) s.equations)
+      all_equations : decoded cs all ≡ F ++ E
+      all_equations =
+          decoded_append cs s.pairs (stacked cs es []) ∙ (ap (λ (x : Eqs). x ++ decoded cs s.pairs) (decoded_stacked es [] F spelt) ∙ ap (λ (x : Eqs). F ++ x) s.equations)
 
       all_live : AllLive arena (graph cs) all
-      all_live = live_append cs s.pairs (stacked cs es []) s.live (live-stacked es [] tt)
+      all_live = live_append cs s.pairs (stacked cs es []) s.live (live_stacked es [] tt)
 
-      all-going : Going kind (graph cs) all true (up_of l) (stacked cs es [])
-      all-going = going_push kind (graph cs) s.pairs (stacked cs es []) true (up_of l) s.going
+      all_going : Going kind (graph cs) all true (up_of l) (stacked cs es [])
+      all_going = going_push kind (graph cs) s.pairs (stacked cs es []) true (up_of l) s.going
 
-      all-means : (o : Outcome) → Tells kind cs l (stacked cs es []) l' o → Means kind (F ++ E) (named o)
-      all-means o tells = subst (λ (x : Eqs). Means kind x (named o)) all-equations (told-means cs kind all l' o (tells all all-going s.acyclic all_live))
+      all_means : (o : Outcome) → Tells kind cs l (stacked cs es []) l' o → Means kind (F ++ E) (named o)
+      all_means o tells = subst (λ (x : Eqs). Means kind x (named o)) all_equations (told_means cs kind all l' o (tells all all_going s.acyclic all_live))
 
-      all-standing : (o : Outcome) → Leads kind cs l (stacked cs es []) l' o → o ≡ Solved → Standing kind cs l' (F ++ E)
-      all-standing Solved leads e =
-          let w = leads all all-going s.acyclic in
-          record { whole = s.whole; pairs = all; live = all_live; going = w.0; acyclic = w.1; equations = all-equations }
-      all-standing False leads e = let z : ◌≡◌ {A = ℕ} 0 1 = cc in absurd (omega arith)
-      all-standing Wrong leads e = let z : ◌≡◌ {A = ℕ} 0 1 = cc in absurd (omega arith)
+      all_standing : (o : Outcome) → Leads kind cs l (stacked cs es []) l' o → o ≡ Solved → Standing kind cs l' (F ++ E)
+      all_standing Solved leads e =
+          let w = leads all all_going s.acyclic in
+          record { whole = s.whole; pairs = all; live = all_live; going = w.0; acyclic = w.1; equations = all_equations }
+      all_standing False leads e = let z : ◌≡◌ {A = ℕ} 0 1 = cc in absurd (omega arith)
+      all_standing Wrong leads e = let z : ◌≡◌ {A = ℕ} 0 1 = cc in absurd (omega arith)
 
-    pub unified-all : (o : Outcome) → Tells kind cs l (stacked cs es []) l' o → Leads kind cs l (stacked cs es []) l' o → UnifiedAll kind cs l es l' o
-    unified-all o tells leads E F s spelt = (all-means E F s spelt o tells, all-standing E F s spelt o leads)
+    pub unified_all : (o : Outcome) → Tells kind cs l (stacked cs es []) l' o → Leads kind cs l (stacked cs es []) l' o → UnifiedAll kind cs l es l' o
+    unified_all o tells leads E F s spelt = (all_means E F s spelt o tells, all_standing E F s spelt o leads)
 
 -- unless all are solved, nothing is told of the links after
 pub unified_false : (kind : ℕ → ℕ → ℕ) (cs : List Cell) (l : List ℕ) (es : List Equation) (l' back : List ℕ) → UnifiedAll kind cs l es l' False → UnifiedAll kind cs l es back False
@@ -115,7 +115,7 @@ all_ready cs cs' l l' es st n m ce le small fit down nodes se ne room =
     record {
       small = small;
       down = down;
-      within = subst (λ s. Within cs (length l) s) (sym se') (within-stacked cs small (length l) bound es [] tt);
+      within = subst (λ s. Within cs (length l) s) (sym se') (within_stacked cs small (length l) bound es [] tt);
       named = bound;
       room = omega arith;
     }))
@@ -127,4 +127,4 @@ all_unified kind cs cs' l l' es st after back o ce le small se be tells leads =
     let se' : st ≡ stacked cs es [] = subst (λ c. st ≡ stacked c es []) ce se in
     let t = subst (λ s. Tells kind cs l s after o) se' (subst (λ x. Tells kind cs x st after o) le (subst (λ c. Tells kind c l' st after o) ce tells)) in
     let d = subst (λ s. Leads kind cs l s after o) se' (subst (λ x. Leads kind cs x st after o) le (subst (λ c. Leads kind c l' st after o) ce leads)) in
-    subst (λ b. UnifiedAll kind cs l es b o) (sym be) (unified-all cs small kind l es after o t d)
+    subst (λ b. UnifiedAll kind cs l es b o) (sym be) (unified_all cs small kind l es after o t d)

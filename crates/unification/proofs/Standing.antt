@@ -15,12 +15,12 @@ use Rattle.graphs.specs.Flat.{Stands}
 use Rattle.graphs.specs.Whole.{Whole}
 use Rattle.unification.specs.Outcomes.{Told, TellsNext, LeadsNext, equation}
 use Rattle.unification.specs.Standing.{named, between, decoded, Standing, Unified}
-use Rattle.graphs.proofs.Arena.{cells-forward}
+use Rattle.graphs.proofs.Arena.{cells_forward}
 use Rattle.graphs.proofs.CellLaws.{node_alive}
-use Rattle.graphs.proofs.Flats.{stands-decode}
-use Rattle.graphs.proofs.Grow.{going-grow, grow-value}
-use Rattle.graphs.proofs.Outcomes.{told-solved}
-use Rattle.graphs.proofs.Wholes.{cells-grow, acyclic-grow, start_going, start_acyclic, bare_fresh, whole_append, live_grow}
+use Rattle.graphs.proofs.Flats.{stands_decode}
+use Rattle.graphs.proofs.Grow.{going_grow, grow_value}
+use Rattle.graphs.proofs.Outcomes.{told_solved}
+use Rattle.graphs.proofs.Wholes.{cells_grow, acyclic_grow, start_going, start_acyclic, bare_fresh, whole_append, live_grow}
 use Rattle.unification.proofs.Settled.{live_append}
 
 -- the newest pair's equation comes first
@@ -30,46 +30,46 @@ decoded_last cs (p ∷ ps) q = ap (λ (E : Eqs). E ++ (between cs p ∷ [])) (de
 
 -- equations read alike, one more at the end
 module _ {A : Type 0} (value : Term → A) (t u : Term) where
-  alike-append : (E : Eqs) → Alike value E → value t ≡ value u → Alike value (E ++ ((t ≈ u) ∷ []))
-  alike-append [] a e = (e, tt)
-  alike-append (x ∷ E) a e = (a.0, alike-append E a.1 e)
+  alike_append : (E : Eqs) → Alike value E → value t ≡ value u → Alike value (E ++ ((t ≈ u) ∷ []))
+  alike_append [] a e = (e, tt)
+  alike_append (x ∷ E) a e = (a.0, alike_append E a.1 e)
 
-  alike-front : (E : Eqs) → Alike value (E ++ ((t ≈ u) ∷ [])) → Alike value E
-  alike-front [] a = tt
-  alike-front (x ∷ E) a = (a.0, alike-front E a.1)
+  alike_front : (E : Eqs) → Alike value (E ++ ((t ≈ u) ∷ [])) → Alike value E
+  alike_front [] a = tt
+  alike_front (x ∷ E) a = (a.0, alike_front E a.1)
 
-  alike-last : (E : Eqs) → Alike value (E ++ ((t ≈ u) ∷ [])) → value t ≡ value u
-  alike-last [] a = a.0
-  alike-last (x ∷ E) a = alike-last E a.1
+  alike_last : (E : Eqs) → Alike value (E ++ ((t ≈ u) ∷ [])) → value t ≡ value u
+  alike_last [] a = a.0
+  alike_last (x ∷ E) a = alike_last E a.1
 
 -- what unifies or fits the pairs does so with their equations
 module _ (cs : List Cell) where
   abbrev at : ℕ → Term
   at = decode arena (graph cs)
 
-  pub unifies-in : (θ : Subst) (ps : List Pair) → Unifies arena (graph cs) θ ps → Typing.Unifies θ (decoded cs ps)
-  unifies-in θ [] w = tt
-  unifies-in θ (p ∷ ps) w = alike-append (apply θ) (at p.left) (at p.right) (decoded cs ps) (unifies-in θ ps w.1) w.0
+  pub unifies_in : (θ : Subst) (ps : List Pair) → Unifies arena (graph cs) θ ps → Typing.Unifies θ (decoded cs ps)
+  unifies_in θ [] w = tt
+  unifies_in θ (p ∷ ps) w = alike_append (apply θ) (at p.left) (at p.right) (decoded cs ps) (unifies_in θ ps w.1) w.0
 
-  pub unifies-out : (θ : Subst) (ps : List Pair) → Typing.Unifies θ (decoded cs ps) → Unifies arena (graph cs) θ ps
-  unifies-out θ [] w = tt
-  unifies-out θ (p ∷ ps) w =
-      (alike-last (apply θ) (at p.left) (at p.right) (decoded cs ps) w, unifies-out θ ps (alike-front (apply θ) (at p.left) (at p.right) (decoded cs ps) w))
+  pub unifies_out : (θ : Subst) (ps : List Pair) → Typing.Unifies θ (decoded cs ps) → Unifies arena (graph cs) θ ps
+  unifies_out θ [] w = tt
+  unifies_out θ (p ∷ ps) w =
+      (alike_last (apply θ) (at p.left) (at p.right) (decoded cs ps) w, unifies_out θ ps (alike_front (apply θ) (at p.left) (at p.right) (decoded cs ps) w))
 
   module _ (kind : ℕ → ℕ → ℕ) where
     fits_in : (κ : ℕ → KTerm) (ps : List Pair) → Fits kind arena (graph cs) κ ps → Typing.Fits kind κ (decoded cs ps)
     fits_in κ [] w = tt
-    fits_in κ (p ∷ ps) w = alike-append (kinds kind κ) (at p.left) (at p.right) (decoded cs ps) (fits_in κ ps w.1) w.0
+    fits_in κ (p ∷ ps) w = alike_append (kinds kind κ) (at p.left) (at p.right) (decoded cs ps) (fits_in κ ps w.1) w.0
 
     fits_out : (κ : ℕ → KTerm) (ps : List Pair) → Typing.Fits kind κ (decoded cs ps) → Fits kind arena (graph cs) κ ps
     fits_out κ [] w = tt
     fits_out κ (p ∷ ps) w =
-        (alike-last (kinds kind κ) (at p.left) (at p.right) (decoded cs ps) w, fits_out κ ps (alike-front (kinds kind κ) (at p.left) (at p.right) (decoded cs ps) w))
+        (alike_last (kinds kind κ) (at p.left) (at p.right) (decoded cs ps) w, fits_out κ ps (alike_front (kinds kind κ) (at p.left) (at p.right) (decoded cs ps) w))
 
-    pub told-means : (ps : List Pair) (l : List ℕ) (o : Outcome) → Told kind cs ps l o → Means kind (decoded cs ps) (named o)
-    told-means ps l Solved w = (_, unifies-in _ ps w.1.1.unifies)
-    told-means ps l False w = ((w.fits.0, fits_in w.fits.0 ps w.fits.1), λ s. w.none s.0 (unifies-out s.0 ps s.1))
-    told-means ps l Wrong w = λ s. w s.0 (fits_out s.0 ps s.1)
+    pub told_means : (ps : List Pair) (l : List ℕ) (o : Outcome) → Told kind cs ps l o → Means kind (decoded cs ps) (named o)
+    told_means ps l Solved w = (_, unifies_in _ ps w.1.1.unifies)
+    told_means ps l False w = ((w.fits.0, fits_in w.fits.0 ps w.fits.1), λ s. w.none s.0 (unifies_out s.0 ps s.1))
+    told_means ps l Wrong w = λ s. w s.0 (fits_out s.0 ps s.1)
 
 -- one more equation
 module _ (kind : ℕ → ℕ → ℕ) (cs : List Cell) (small : length cs ≤ 1568) (l : List ℕ) (left right : ℕ) (l' : List ℕ) where
@@ -77,30 +77,30 @@ module _ (kind : ℕ → ℕ → ℕ) (cs : List Cell) (small : length cs ≤ 15
   pair = record { left = node_at cs left; right = node_at cs right }
 
   module _ (E : Eqs) (t u : Term) (s : Standing kind cs l E) (lt : Stands cs left t) (ru : Stands cs right u) where
-    next-equations : decoded cs (s.pairs ++ equation cs left right) ≡ (t ≈ u) ∷ E
-    next-equations =
-        let a = stands-decode cs small left t lt in
-        let b = stands-decode cs small right u ru in
+    next_equations : decoded cs (s.pairs ++ equation cs left right) ≡ (t ≈ u) ∷ E
+    next_equations =
+        let a = stands_decode cs small left t lt in
+        let b = stands_decode cs small right u ru in
         let e = s.equations in
         decoded_last cs s.pairs pair ∙ cc
 
-    next-live : AllLive arena (graph cs) (s.pairs ++ equation cs left right)
-    next-live = live_append cs s.pairs (equation cs left right) s.live (node_alive cs small left, node_alive cs small right, tt)
+    next_live : AllLive arena (graph cs) (s.pairs ++ equation cs left right)
+    next_live = live_append cs s.pairs (equation cs left right) s.live (node_alive cs small left, node_alive cs small right, tt)
 
-    next-means : (o : Outcome) → TellsNext kind cs l left right l' o → Means kind ((t ≈ u) ∷ E) (named o)
-    next-means o tells =
-        subst (λ (F : Eqs). Means kind F (named o)) next-equations
-        (told-means cs kind (s.pairs ++ equation cs left right) l' o (tells s.pairs s.going s.acyclic s.live))
+    next_means : (o : Outcome) → TellsNext kind cs l left right l' o → Means kind ((t ≈ u) ∷ E) (named o)
+    next_means o tells =
+        subst (λ (F : Eqs). Means kind F (named o)) next_equations
+        (told_means cs kind (s.pairs ++ equation cs left right) l' o (tells s.pairs s.going s.acyclic s.live))
 
-    next-standing : (o : Outcome) → LeadsNext kind cs l left right l' o → o ≡ Solved → Standing kind cs l' ((t ≈ u) ∷ E)
-    next-standing Solved leads e =
+    next_standing : (o : Outcome) → LeadsNext kind cs l left right l' o → o ≡ Solved → Standing kind cs l' ((t ≈ u) ∷ E)
+    next_standing Solved leads e =
         let w = leads s.pairs s.going s.acyclic in
-        record { whole = s.whole; pairs = s.pairs ++ equation cs left right; live = next-live; going = w.0; acyclic = w.1; equations = next-equations }
-    next-standing False leads e = let z : ◌≡◌ {A = ℕ} 0 1 = cc in absurd (omega arith)
-    next-standing Wrong leads e = let z : ◌≡◌ {A = ℕ} 0 1 = cc in absurd (omega arith)
+        record { whole = s.whole; pairs = s.pairs ++ equation cs left right; live = next_live; going = w.0; acyclic = w.1; equations = next_equations }
+    next_standing False leads e = let z : ◌≡◌ {A = ℕ} 0 1 = cc in absurd (omega arith)
+    next_standing Wrong leads e = let z : ◌≡◌ {A = ℕ} 0 1 = cc in absurd (omega arith)
 
   pub unified : (o : Outcome) → TellsNext kind cs l left right l' o → LeadsNext kind cs l left right l' o → Unified kind cs l left right l' o
-  unified o tells leads E t u s lt ru = (next-means E t u s lt ru o tells, next-standing E t u s lt ru o leads)
+  unified o tells leads E t u s lt ru = (next_means E t u s lt ru o tells, next_standing E t u s lt ru o leads)
 
 -- no cells and no links stand for no equations
 pub standing_start : (kind : ℕ → ℕ → ℕ) → Standing kind [] (roots 0 2624) []
@@ -115,33 +115,33 @@ standing_start kind = record {
 
 -- more cells leave the terms of live nodes as they are
 module _ (cs more : List Cell) (up : ℕ → ℕ) (small : length (cs ++ more) ≤ 1568) (grows : Grows (graph cs) (graph (cs ++ more)) up) where
-  same-term : (n : ℕ) → Live arena (graph cs) n → decode arena (graph (cs ++ more)) n ≡ decode arena (graph cs) n
-  same-term n live =
+  same_term : (n : ℕ) → Live arena (graph cs) n → decode arena (graph (cs ++ more)) n ≡ decode arena (graph cs) n
+  same_term n live =
       let h = length-append cs more in
-      grow-value (graph cs) (graph (cs ++ more)) up grows term_algebra arena (cells-forward cs (omega arith)) (cells-forward (cs ++ more) small) Typing.var n live
+      grow_value (graph cs) (graph (cs ++ more)) up grows term_algebra arena (cells_forward cs (omega arith)) (cells_forward (cs ++ more) small) Typing.var n live
 
-  same-equations : (ps : List Pair) → AllLive arena (graph cs) ps → decoded (cs ++ more) ps ≡ decoded cs ps
-  same-equations [] a = refl
-  same-equations (p ∷ ps) a =
-      let l = same-term p.left a.0 in let r = same-term p.right a.1 in let i = same-equations ps a.2 in cc
+  same_equations : (ps : List Pair) → AllLive arena (graph cs) ps → decoded (cs ++ more) ps ≡ decoded cs ps
+  same_equations [] a = refl
+  same_equations (p ∷ ps) a =
+      let l = same_term p.left a.0 in let r = same_term p.right a.1 in let i = same_equations ps a.2 in cc
 
 -- whole terms added leave what links stand for as it is
 pub standing_grow : (kind : ℕ → ℕ → ℕ) (cs more : List Cell) (l : List ℕ) (E : Eqs) → length (cs ++ more) ≤ 1568 → Whole more → Standing kind cs l E → Standing kind (cs ++ more) l E
 standing_grow kind cs more l E small whole s =
     let fresh = bare_fresh cs more (up_of l) small s.going.bare in
-    let grows = cells-grow cs more (up_of l) small s.whole fresh in
+    let grows = cells_grow cs more (up_of l) small s.whole fresh in
     record {
       whole = whole_append cs more s.whole whole;
       pairs = s.pairs;
       live = live_grow cs more s.pairs s.live;
-      going = going-grow (graph cs) (graph (cs ++ more)) (up_of l) grows kind s.pairs true s.going;
-      acyclic = acyclic-grow cs more (up_of l) small s.whole fresh s.going.tied s.acyclic.0 s.acyclic.1;
-      equations = same-equations cs more (up_of l) small grows s.pairs s.live ∙ s.equations;
+      going = going_grow (graph cs) (graph (cs ++ more)) (up_of l) grows kind s.pairs true s.going;
+      acyclic = acyclic_grow cs more (up_of l) small s.whole fresh s.going.tied s.acyclic.0 s.acyclic.1;
+      equations = same_equations cs more (up_of l) small grows s.pairs s.live ∙ s.equations;
     }
 
 -- what links stand for has a solution
 pub standing_solvable : (kind : ℕ → ℕ → ℕ) (cs : List Cell) (l : List ℕ) (E : Eqs) → length cs ≤ 1568 → Standing kind cs l E → (θ : Subst) × Typing.Unifies θ E
 standing_solvable kind cs l E small s =
     let θ = answer arena (graph cs) (up_of l) s.acyclic.0 in
-    let w = told-solved kind cs small s.pairs s.live true l s.going s.acyclic.0 s.acyclic.1 refl in
-    (θ, subst (Typing.Unifies θ) s.equations (unifies-in cs θ s.pairs w.unifies))
+    let w = told_solved kind cs small s.pairs s.live true l s.going s.acyclic.0 s.acyclic.1 refl in
+    (θ, subst (Typing.Unifies θ) s.equations (unifies_in cs θ s.pairs w.unifies))

@@ -1,4 +1,4 @@
-use Rattle.std.proofs.Common.{◌≡◌, ℕ, ◌+◌, ◌-◌, ◌<◌, ◌≤◌, Bool, true, false, List, [], ◌∷◌, ◌++◌, length, take, drop, sym, refl, ap, ◌∙◌, subst, arith}
+use Rattle.std.proofs.Common.{◌≡◌, ℕ, ◌+◌, ◌-◌, ◌<◌, ◌≤◌, true, List, [], ◌++◌, length, take, drop, sym, ap, ◌∙◌, subst, arith}
 use Rattle.std.proofs.lemmas.List.{take-append-le, take_all, length-drop}
 use Rattle.terms.specs.declared.Cell.{Cell}
 use Rattle.graphs.specs.declared.Pair.{Pair}
@@ -7,10 +7,10 @@ use Rattle.graphs.specs.Links.{up_of, Down, weight, ones, roots, restore, Logged
 use Rattle.graphs.specs.Cells.{all_fit, node_at}
 use Rattle.unification.specs.Run.{Ready, Within}
 use Rattle.unification.specs.Outcomes.{opened, Tells, Leads, TellsNext, LeadsNext}
-use Rattle.graphs.proofs.Lists.{restore_down, restore_weight, restore_length, weight_length}
+use Rattle.graphs.proofs.Lists.{restore_down, restore_weight, weight_length}
 use Rattle.graphs.proofs.Wholes.{roots_down, roots_length, node_below, owes_room}
 use Rattle.unification.proofs.Opened.{within_open}
-use Rattle.unification.proofs.Settled.{tells-next, leads-next}
+use Rattle.unification.proofs.Settled.{tells_next, leads_next}
 
 -- a vector that was lent as a slice holds what the slice holds
 pub refill : {X : Type 0} (n : ℕ) (ws xs : List X) → n ≡ length ws → take n (ws ++ xs) ≡ ws
@@ -59,13 +59,13 @@ module _ (kind : ℕ → ℕ → ℕ) (cs cs' : List Cell) (l l' : List ℕ) (le
   at_cells : st ≡ opened cs left right []
   at_cells = subst (λ c. st ≡ opened c left right []) ce se
 
-  pub told-next : Tells kind cs' l' st after o → TellsNext kind cs l left right back o
-  told-next t = subst (λ b. TellsNext kind cs l left right b o) (sym ae)
-      (tells-next kind cs small l left right after o st at_cells (subst (λ x. Tells kind cs x st after o) le (subst (λ c. Tells kind c l' st after o) ce t)))
+  pub told_next : Tells kind cs' l' st after o → TellsNext kind cs l left right back o
+  told_next t = subst (λ b. TellsNext kind cs l left right b o) (sym ae)
+      (tells_next kind cs small l left right after o st at_cells (subst (λ x. Tells kind cs x st after o) le (subst (λ c. Tells kind c l' st after o) ce t)))
 
-  pub led-next : Leads kind cs' l' st after o → LeadsNext kind cs l left right back o
-  led-next t = subst (λ b. LeadsNext kind cs l left right b o) (sym ae)
-      (leads-next kind cs small l left right after o st at_cells (subst (λ x. Leads kind cs x st after o) le (subst (λ c. Leads kind c l' st after o) ce t)))
+  pub led_next : Leads kind cs' l' st after o → LeadsNext kind cs l left right back o
+  led_next t = subst (λ b. LeadsNext kind cs l left right b o) (sym ae)
+      (leads_next kind cs small l left right after o st at_cells (subst (λ x. Leads kind cs x st after o) le (subst (λ c. Leads kind c l' st after o) ce t)))
 
 -- the state after an equation
 pub record After (l t back t' : List ℕ) (n : ℕ) : Type 0 where

@@ -1,5 +1,5 @@
 -- What the outcome of an equation means.
-use Rattle.std.specs.Prelude.{◌≡◌, ℕ, ◌+◌, ◌≤◌, Bool, true, false, cond, ◌&&◌, List, [], ◌∷◌, ◌++◌, length, get_or, ◌==◌, nat_lt, slice_index_or}
+use Rattle.std.specs.Prelude.{◌≡◌, ℕ, ◌+◌, Bool, true, false, cond, ◌&&◌, List, [], ◌∷◌, ◌++◌, length, get_or, ◌==◌, nat_lt, slice_index_or}
 use Rattle.terms.specs.declared.Cell.{Cell}
 use Rattle.graphs.specs.declared.Pair.{Pair}
 use Rattle.unification.specs.declared.Outcome.{Outcome}

@@ -1,5 +1,5 @@
 -- What reading a variable gives: the spelling of its term in the solved form.
-use Rattle.std.specs.Prelude.{◌≡◌, ℕ, ◌+◌, ◌-◌, ◌<◌, ◌≤◌, List, [], ◌∷◌, ◌++◌, map, length, take, drop, Some, None, Option}
+use Rattle.std.specs.Prelude.{◌≡◌, ℕ, ◌+◌, ◌-◌, ◌<◌, ◌≤◌, List, ◌++◌, map, length, take, drop, Some, None, Option}
 use Rattle.typing.specs.Terms.{Term, var, Eqs, Signature, Subst}
 use Rattle.typing.specs.Rules.{Reads}
 use Rattle.terms.specs.declared.Cell.{Cell}

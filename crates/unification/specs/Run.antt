@@ -1,5 +1,5 @@
 -- One pair after another: what a turn needs, and what it keeps.
-use Rattle.std.specs.Prelude.{◌≡◌, ℕ, zero, suc, ◌+◌, ◌<◌, ◌≤◌, Bool, true, false, ◌≢◌, List, [], ◌∷◌, ◌++◌, length, Some, None, Option}
+use Rattle.std.specs.Prelude.{◌≡◌, ℕ, ◌+◌, ◌<◌, ◌≤◌, Bool, true, false, ◌≢◌, List, [], ◌∷◌, length, Some, None, Option}
 use Rattle.terms.specs.declared.Cell.{Cell}
 use Rattle.graphs.specs.declared.Pair.{Pair}
 use Rattle.unification.specs.declared.solve.Meet.{Meet}
@@ -8,10 +8,10 @@ use Rattle.unification.specs.declared.solve.Turn.{Turn}
 use Rattle.unification.specs.declared.solve.Turn.TheVariants.{Plain, Deep, Differ, Wrong}
 use Rattle.unification.specs.declared.solve.Tally.{Tally}
 use Rattle.graphs.specs.Terms.{KTerm}
-use Rattle.graphs.specs.Graph.{Graph, Values, Stacked, Acyclic, free, atom, app}
+use Rattle.graphs.specs.Graph.{Values, Stacked, Acyclic, free, atom, app}
 use Rattle.graphs.specs.Links.{up_of, weight, Down}
 use Rattle.graphs.specs.Meaning.{arena, kind_algebra, Going, Live}
-use Rattle.graphs.specs.Search.{Walked}
+use Rattle.graphs.specs.Search.{StillAcyclic}
 use Rattle.graphs.specs.Cells.{node_at, graph, owes, arguments}
 
 -- how two roots meet, the first above the second
@@ -94,6 +94,6 @@ Ran kind cs l st l' None = (E : List Pair) → Going kind (graph cs) E true (up_
     → (ρ : ℕ → KTerm) → Values (kind_algebra kind) (graph cs) ρ → ¬ Stacked (kind_algebra kind) ρ E
 
 -- whether still no application contains itself, where one was linked or bound
-abbrev pub Checked : Bool → List Cell → List ℕ → List ℕ → Bool → Type 0
-Checked true cs l nodes b = Walked cs l nodes b
-Checked false cs l nodes b = b ≡ true
+abbrev pub StaysChecked : Bool → List Cell → List ℕ → List ℕ → Bool → Type 0
+StaysChecked true cs l nodes b = StillAcyclic cs l nodes b
+StaysChecked false cs l nodes b = b ≡ true

@@ -1,5 +1,5 @@
 -- What bindings hold.
-use Rattle.std.specs.Prelude.{◌≡◌, ℕ, ◌+◌, ◌<◌, ◌≤◌, Bool, true, cond, ◌&&◌, List, [], ◌++◌, length, Some, None, vec_items, Option, nat_le, nat_lt, slice_index_or}
+use Rattle.std.specs.Prelude.{ℕ, ◌+◌, Bool, cond, ◌&&◌, List, length, Some, None, vec_items, Option, nat_le, nat_lt, slice_index_or}
 use Rattle.terms.specs.declared.Cell.{Cell}
 use Rattle.unification.specs.declared.bindings.Bindings.{Bindings}
 use Rattle.graphs.specs.Cells.{blank, all_fit}

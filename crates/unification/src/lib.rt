@@ -3,6 +3,8 @@
 // A node is the place of a constant or function cell, or 1,568 + v for the variable v. Each node links to itself, and is then a root,
 // or to a lower node; the terms at linked nodes are equal. An equation is solved by linking roots and stacking the pairs of their
 // arguments; then a walk from the newly linked nodes looks for a function that contains itself. A trail of the linked nodes takes links back.
+#![tactic(auto)]
+
 ghost use Rattle.std.specs.Prelude.{◌≡◌};
 
 pub mod bindings;

@@ -4,8 +4,8 @@ ghost use Rattle.std.specs.Prelude.{◌≡◌, ℕ, ◌+◌, ◌<◌, ◌≤◌,
 ghost use Rattle.graphs.specs.Meaning.{number};
 ghost use Rattle.graphs.specs.Links.{up_of, Down};
 ghost use Rattle.graphs.specs.Cells.{graph, node_at, blank};
-ghost use Rattle.graphs.specs.Search.{order_of, Searching, Enclosed, Visits, Walked};
-ghost use Rattle.unification.specs.Run.{Checked};
+ghost use Rattle.graphs.specs.Search.{order_of, Searching, Enclosed, Visits, StillAcyclic};
+ghost use Rattle.unification.specs.Run.{StaysChecked};
 
 use super::{links, places};
 use terms::Cell;
@@ -70,7 +70,7 @@ fn clear(order: &mut [u16])
 fn sweep(cells: &[Cell], links: &[usize], nodes: &[usize], order: &mut [u16]) -> bool
     requires state { Searching cells.now links.now order.old 3 }
     requires clean { (k : ℕ) → slice_index order.old k ≡ 0 }
-    ensures { Walked cells.now links.now nodes.now result }
+    ensures { StillAcyclic cells.now links.now nodes.now result }
 {
     let mut time: u16 = 3;
     for n in nodes {
@@ -99,7 +99,7 @@ pub fn stays_acyclic(
     requires down { Down links.now }
     requires named { (p : ℕ) → node_at cells.now p < length links.now }
     requires wide { length cells.now ≤ length order.old }
-    ensures { Checked deep cells.now links.now nodes.now result }
+    ensures { StaysChecked deep cells.now links.now nodes.now result }
 {
     if deep {
         is_acyclic(cells, links, nodes, order)
@@ -114,7 +114,7 @@ fn is_acyclic(cells: &[Cell], links: &[usize], nodes: &[usize], order: &mut [u16
     requires down { Down links.now }
     requires named { (p : ℕ) → node_at cells.now p < length links.now }
     requires wide { length cells.now ≤ length order.old }
-    ensures { Walked cells.now links.now nodes.now result }
+    ensures { StillAcyclic cells.now links.now nodes.now result }
 {
     let n = cells.len();
     let used = &mut order[0..n];

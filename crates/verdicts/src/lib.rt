@@ -1,4 +1,6 @@
 // What is told of a question: how branches of the cut tree end, what the leaves say together, refusals and settings.
+#![tactic(auto)]
+
 ghost use Rattle.std.specs.Prelude.{◌≡◌};
 ghost use Rattle.verdicts.specs.Numbers.{number_of};
 

@@ -1,7 +1,7 @@
 use Rattle.std.proofs.Common.{◌≡◌, ℕ, ◌+◌, ◌/◌, ◌%◌, ◌^◌, ◌<◌, ◌≤◌, List, [], ◌∷◌, ◌++◌, vec_items, decimal, sym, ap, ◌∙◌, append_assoc, arith}
 use Rattle.std.proofs.lemmas.Fmt.{decimal_digit, decimal_step}
 use Rattle.cases.proofs.+number.Goals as goal
-use Rattle.cases.proofs.+number.Goals.{then-n-ge10+in-ok-number, else-n-ge10}
+use Rattle.cases.proofs.+number.Goals.{then-n-ge10+in_ok-number, else-n-ge10}
 
 more : (n d : ℕ) (v w x : List ℕ) → 10 ≤ n → n < 2 ^ 64 → d ≡ 48 + n % 10 → w ≡ v ++ decimal (n / 10) → x ≡ w ++ d ∷ [] → x ≡ v ++ decimal n
 more n d v w x h f e a b =
@@ -14,12 +14,12 @@ one n d v x h e a = a ∙ (ap (λ y. v ++ y ∷ []) e ∙ ap (λ y. v ++ y) (sym
 
 pub returns : goal.returns
 returns t c =
-    let p = c.in-ok-push.ensures.items in
+    let p = c.in_ok-push.ensures.items in
     let n = c.args.n in
     elim c.if-n-ge10.branch [
-      | then-n-ge10+in-ok-number w ↦
+      | then-n-ge10+in_ok-number w ↦
           more n (n % 10 + 48) (vec_items c.args.out.now) (vec_items c.if-n-ge10.out) (vec_items c.push.new.self) w.if-n-ge10.true (omega arith) (omega arith)
-          (ap vec_items w.out-is ∙ w.in-ok-number.ensures) p
+          (ap vec_items w.out-is ∙ w.in_ok-number.ensures) p
       | else-n-ge10 w ↦
           let h = w.if-n-ge10.false in
           one n (n % 10 + 48) (vec_items c.args.out.now) (vec_items c.push.new.self) h (omega arith) (p ∙ ap (λ v. vec_items v ++ (n % 10 + 48) ∷ []) w.out-is)

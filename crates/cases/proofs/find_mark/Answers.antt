@@ -1,4 +1,4 @@
-use Rattle.std.proofs.Common.{◌≡◌, sym, ◌∙◌, arith, rules}
+use Rattle.std.proofs.Common.{sym, ◌∙◌, arith}
 use Rattle.cases.proofs.Marking.{mark_none, mark_plain, mark_found, mark_passed}
 use Rattle.cases.proofs.find_mark.Goals as goal
 

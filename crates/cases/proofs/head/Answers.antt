@@ -21,8 +21,8 @@ loop-i-preserved c =
     let t = c.args.text.now in
     let i = c.loop-i.i in
     let d = bit_and (get_or t i 0) 15 in
-    let m = c.saturating-add-times.ensures ∙ (ap (λ x. min (x + d) (2 ^ 64 - 1)) c.saturating-mul.ensures ∙ saturated (c.loop-i.times * 10) d (2 ^ 64 - 1)) in (
-      sym (times_more t i c.loop-i.times c.saturating-add-times.result (omega arith) c.if-b-eq58.false m) ∙ c.loop-i.invariant.0,
+    let m = c.saturating_add-times.ensures ∙ (ap (λ x. min (x + d) (2 ^ 64 - 1)) c.saturating_mul.ensures ∙ saturated (c.loop-i.times * 10) d (2 ^ 64 - 1)) in (
+      sym (times_more t i c.loop-i.times c.saturating_add-times.result (omega arith) c.if-b-eq58.false m) ∙ c.loop-i.invariant.0,
       sym (body_more t i (omega arith) c.if-b-eq58.false) ∙ c.loop-i.invariant.1,
     )
 

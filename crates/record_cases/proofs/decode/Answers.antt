@@ -1,4 +1,4 @@
-use Rattle.std.proofs.Common.{◌≡◌, ℕ, ◌+◌, ◌*◌, [], ◌∷◌, ◌++◌, get_or, drop, vec_items, sym, ap, ◌∙◌, arith}
+use Rattle.std.proofs.Common.{◌+◌, ◌*◌, [], ◌∷◌, ◌++◌, get_or, drop, vec_items, sym, ap, ◌∙◌, arith}
 use Rattle.record_cases.specs.Spelling.{hex_of, spelled}
 use Rattle.record_cases.proofs.Spelt.{passed, byte_step, ended, carried}
 use Rattle.record_cases.proofs.decode.Goals as goal
@@ -14,7 +14,7 @@ loop-at-preserved c =
     let i = c.loop-at.at in
     let v = vec_items c.loop-at.out in
     carried v (vec_items c.push.new.self) ((hex_of (get_or t i 0) * 16 + hex_of (get_or t (i + 1) 0)) ∷ []) (spelled (drop i t)) (spelled (drop (i + 2) t)) _
-    (c.in-ok-push.ensures.items
+    (c.in_ok-push.ensures.items
     ∙ (ap (λ x. v ++ (x * 16 + c.hex-else-blank.result) ∷ []) c.hex.ensures.value ∙ ap (λ x. v ++ (hex_of (get_or t i 0) * 16 + x) ∷ []) c.hex-else-blank.ensures.value))
     (byte_step t i (omega arith) (sym c.blank.ensures ∙ c.if-blank.false)) c.loop-at.invariant
 

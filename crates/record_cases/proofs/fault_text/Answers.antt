@@ -1,4 +1,4 @@
-use Rattle.std.proofs.Common.{◌≡◌, sym, rules}
+use Rattle.std.proofs.Common.{sym, rules}
 use Rattle.record_cases.proofs.fault_text.Goals as goal
 
 pub returns-in-Some : goal.returns-in-Some

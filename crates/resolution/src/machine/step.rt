@@ -1,5 +1,5 @@
 // One step of a branch: a clause is written with new variables, and the goal is unified with its head.
-ghost use Rattle.std.specs.Prelude.{◌≡◌, ℕ, ◌+◌, ◌-◌, ◌*◌, ◌<◌, ◌≤◌, Bool, true, false, List, [], ◌∷◌, ◌++◌, length, IfSome, vec_len};
+ghost use Rattle.std.specs.Prelude.{◌≡◌, ℕ, ◌+◌, ◌-◌, ◌*◌, ◌<◌, ◌≤◌, Bool, true, false, List, [], ◌∷◌, ◌++◌, length, take, IfSome, ◌≢◌, vec_len};
 ghost use Rattle.unification.specs.State.{cells_of, links_of, trail_of};
 ghost use Rattle.verdicts.specs.Leaves.{flag_after};
 ghost use Rattle.frames.specs.Memory.{back};
@@ -75,6 +75,8 @@ impl Machine {
     // Takes back what was done since the frame was made, or since its last clause was tried.
     pub(super) fn go_back(&mut self, frame: Frame)
         ensures memory { memory self.new ≡ back (memory self.old) frame }
+        ensures cells { cells_of self.new.bindings ≡ take frame.bindings.cells (cells_of self.old.bindings) }
+        ensures waiting { self.new.waiting.items ≡ take frame.waiting self.old.waiting.items }
         ensures branch { (branch self.new ≡ branch self.old) × (shortest self.new ≡ shortest self.old) }
         ensures few { (length (cells_of self.new.bindings) ≤ frame.bindings.cells) × (vec_len self.new.waiting ≤ frame.waiting) }
     {
@@ -99,6 +101,7 @@ impl Machine {
         requires waiting { vec_len self.old.waiting ≤ waiting_at frame.node.step }
         ensures step { result.0.step ≡ frame.node.step + 1 }
         ensures flag { result.0.flag ≡ flag_after result.1 frame.node.flag }
+        ensures dropped { result.1 ≢ Outcome.Solved → result.0.goals ≡ goal.rest }
         ensures resolved { Resolved (K.Signature.kind kinds.now) frame goal head (memory self.old) (memory self.new) result.0 result.1 }
         ensures shortest { shortest self.new ≡ shortest self.old }
         ensures trodden { self.new.trodden.items ≡ trodden_after head self.old.trodden.items frame.node.step frame.clause }

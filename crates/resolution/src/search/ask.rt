@@ -1,5 +1,6 @@
 // The question that a search is asked.
 ghost use Rattle.std.specs.Prelude.{◌≡◌, ℕ, ◌+◌, ◌<◌, ◌≤◌, List, [], length, take, drop, IfOk};
+ghost use Rattle.clauses.specs.Clauses.{OfPredicates};
 ghost use Rattle.typing.specs.Terms.{Eqs};
 ghost use Rattle.graphs.specs.Links.{roots};
 ghost use Rattle.unification.specs.Standing.{Standing};
@@ -50,14 +51,15 @@ fn judge(question: &[Cell], pairs: usize, frames: usize, path: usize) -> Option<
 impl Search {
     // No equations stand. All memory is taken here.
     pub fn new(heap: Global) -> Result<Search, AllocError>
-        ensures { IfOk result (λ s. (standing_cells s ≡ []) × (standing_links s ≡ roots 0 2624) × (standing_trail s ≡ [])) }
+        ensures { IfOk result (λ s. (standing_cells s ≡ []) × (standing_links s ≡ roots 0 2624) × (standing_trail s ≡ []) × (s.machine.waiting.items ≡ [])) }
     {
         let machine = Machine::new(heap)?;
         Ok(Search { machine })
     }
 
-    // The answer to a question under the equations that stand, which stand afterwards as they did. With holds, the path of the shortest success stands
-    // in the first places of the slice, and the rest of the slice is unchanged; without holds, and where the question is refused, all of it is.
+    // The answer to a question under the equations that stand, which stand afterwards as they did, from a source whose lists spell a program.
+    // With holds, the path of the shortest success stands in the first places of the slice, and the rest of the slice is unchanged; without holds, and
+    // where the question is refused, all of it is.
     pub fn ask<P: Source, K: Signature>(
         &mut self,
         source: &P,
@@ -68,8 +70,8 @@ impl Search {
         frames: &mut [Frame],
         path: &mut [u16],
     ) -> Result<Answer, Refusal>
-        ensures asked { (E : Eqs) → Standing (K.Signature.kind kinds.now) (standing_cells self.old) (standing_links self.old) E → Asked (judged question.now (length pairs.old) (length frames.old) (length path.old)) (P.Source.clauses source.now) (K.Signature.kind kinds.now) settings.limit settings.allowance question.now E path.old path.new result }
-        ensures restored { (E : Eqs) → Standing (K.Signature.kind kinds.now) (standing_cells self.old) (standing_links self.old) E → memory self.new.machine ≡ memory self.old.machine }
+        ensures asked { OfPredicates (P.Source.clauses source.now) → (E : Eqs) → Standing (K.Signature.kind kinds.now) (standing_cells self.old) (standing_links self.old) E → Asked (judged question.now (length pairs.old) (length frames.old) (length path.old)) (P.Source.clauses source.now) (K.Signature.kind kinds.now) settings.limit settings.allowance question.now E path.old path.new result }
+        ensures restored { OfPredicates (P.Source.clauses source.now) → (E : Eqs) → Standing (K.Signature.kind kinds.now) (standing_cells self.old) (standing_links self.old) E → memory self.new.machine ≡ memory self.old.machine }
         ensures bounded { Bounded (judged question.now (length pairs.old) (length frames.old) (length path.old)) settings.allowance result }
         ensures path { PathOf result path.old path.new }
     {

@@ -1,5 +1,5 @@
 // The equations that stand in a search, and what they give to a variable.
-ghost use Rattle.std.specs.Prelude.{◌≡◌, ◌&&◌, [], ◌++◌, length, is_some, IfSome, IfNone, if◌then◌else◌, Some, None, MatchOption, nat_le};
+ghost use Rattle.std.specs.Prelude.{◌≡◌, ◌&&◌, [], ◌++◌, length, is_some, IfSome, IfNone, if◌then◌else◌, Some, None, MatchOption, nat_le, vec_len};
 ghost use Rattle.graphs.specs.Links.{restore};
 ghost use Rattle.unification.specs.Outcomes.{Settles};
 ghost use Rattle.unification.specs.Several.{UnifiedAll};
@@ -20,6 +20,7 @@ impl Search {
         ensures cells { standing_cells self.new ≡ [] }
         ensures links { standing_links self.new ≡ restore (standing_links self.old) (standing_trail self.old) }
         ensures trail { standing_trail self.new ≡ [] }
+        ensures waiting { vec_len self.new.machine.waiting ≡ 0 }
     {
         self.machine.bindings.roll_back(Snapshot::start());
     }

@@ -10,13 +10,13 @@ use Rattle.book.specs.Forming.{right_all}
 use Rattle.book.specs.Rows.{each_inserted, rising_more, parted_at}
 use Rattle.book.proofs.Book.add.Goals as goal
 
-pub invariant-of-self : goal.invariant-of-self
-invariant-of-self c =
+pub invariant_of-self : goal.invariant_of-self
+invariant_of-self c =
     let s = c.args.self.now in
     let clause = c.args.clause.now in
-    let cells = c.extend-from-slice.new.self in
+    let cells = c.extend_from_slice.new.self in
     let rows = c.insert.new.self in
-    let at = c.lower-bound-at.result in
+    let at = c.lower_bound-at.result in
     let r = row_of c.len-from.result clause in
     let old = s.cells.ok.0 in
     let olds = s.rows.ok.0 in
@@ -25,7 +25,7 @@ invariant-of-self c =
     let good = c.insert.ensures.succeeds room in
     let items : vec_items rows ≡ insert (vec_items s.rows) at r = c.insert.ensures.items ∙ cond-true _ _ _ good in
     let long : vec_len rows ≡ vec_len s.rows + 1 = c.insert.ensures.len ∙ cond-true _ _ _ good in
-    let place : Parted (vec_items s.rows) (row_key r + 1) at = parted_at c.as-slice.result.now (vec_items s.rows) _ (row_key r + 1) at c.as-slice.ensures.value (ap (λ n. n + 1) c.key.ensures.value) c.lower-bound-at.ensures in
+    let place : Parted (vec_items s.rows) (row_key r + 1) at = parted_at c.as_slice.result.now (vec_items s.rows) _ (row_key r + 1) at c.as_slice.ensures.value (ap (λ n. n + 1) c.key.ensures.value) c.lower_bound-at.ensures in
     let most = place.most in
     let low = each_joined Low (vec_items s.cells) clause (vec_items cells) (vec_len s.cells) (vec_len cells) c.in-Ok.ensures.items old cells.ok.0 s.low c.requires.low in
     let slim = each_joined Slim (vec_items s.cells) clause (vec_items cells) (vec_len s.cells) (vec_len cells) c.in-Ok.ensures.items old cells.ok.0 s.slim c.requires.slim in
@@ -36,7 +36,17 @@ invariant-of-self c =
     let narrow = each_inserted (λ (x : Row). x.arity ≤ 8) (vec_items s.rows) (vec_items rows) at r (vec_len s.rows) (vec_len rows) items most olds rows.ok.0 s.narrow
     (c.requires.slim 0 _ c.requires.some) in
     let sorted = rising_more (vec_items s.rows) (vec_items rows) at r (vec_len s.rows) (vec_len rows) items olds rows.ok.0 s.sorted place in
-    ((omega arith, omega (arith, c.insert.ensures.capacity)), (search rules, (search rules, (low, (slim, (inside, (right, (narrow, (sorted, tt)))))))))
+    record {
+      space = (omega arith, omega (arith, c.insert.ensures.capacity));
+      few = search rules;
+      small = search rules;
+      low = low;
+      slim = slim;
+      inside = inside;
+      right = right;
+      narrow = narrow;
+      sorted = sorted;
+    }
 
 pub returns : goal.returns
 returns c =
@@ -45,9 +55,9 @@ returns c =
     let e = c.len-from.ensures in
     record {
       cells = c.in-Ok.ensures.items;
-      place = c.lower-bound-at.result;
+      place = c.lower_bound-at.result;
       after_others =
-          parted_at c.as-slice.result.now (vec_items s.rows) _ (row_key (row_of 0 clause) + 1) c.lower-bound-at.result c.as-slice.ensures.value (ap (λ n. n + 1) c.key.ensures.value) c.lower-bound-at.ensures;
-      rows = c.in-Ok-insert.ensures.items ∙ ap (λ n. insert (vec_items s.rows) c.lower-bound-at.result (row_of n clause)) e;
+          parted_at c.as_slice.result.now (vec_items s.rows) _ (row_key (row_of 0 clause) + 1) c.lower_bound-at.result c.as_slice.ensures.value (ap (λ n. n + 1) c.key.ensures.value) c.lower_bound-at.ensures;
+      rows = c.in-Ok-insert.ensures.items ∙ ap (λ n. insert (vec_items s.rows) c.lower_bound-at.result (row_of n clause)) e;
       names = refl;
     }

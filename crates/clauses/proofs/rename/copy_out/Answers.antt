@@ -1,6 +1,5 @@
-use Rattle.std.proofs.Common.{◌≡◌, ◌++◌, length, take, drop, set, sym, ap, ◌∙◌, arith, rules}
+use Rattle.std.proofs.Common.{◌++◌, take, drop, set, ap, ◌∙◌, arith, rules}
 use Rattle.std.proofs.lemmas.List.Elements.{All-get_or}
-use Rattle.std.proofs.lemmas.List.{take_all}
 use Rattle.clauses.specs.Clauses.{Low, renamed}
 use Rattle.clauses.proofs.Renaming.{renamed_more, renamed_none, renamed_all}
 use Rattle.clauses.proofs.rename.copy_out.Goals as goal

@@ -1,4 +1,4 @@
-use Rattle.std.proofs.Common.{◌≡◌, min, false, length, ap, ◌∙◌, rules}
+use Rattle.std.proofs.Common.{min, false, length, ap, ◌∙◌}
 use Rattle.draft.specs.declared.grammar.Due.TheVariants.{Head}
 use Rattle.draft.specs.declared.reader.Form.TheVariants.{Clause}
 use Rattle.draft.specs.Sketch.{sketch_of, blank}
@@ -11,7 +11,7 @@ returns c =
     let text = c.args.text.now in
     let at = c.args.at in
     let u = sketch_of c.read.new.self in
-    let e = c.begin.ensures ∙ ap (λ n. blank n false) c.skip-blanks.ensures.value in
+    let e = c.begin.ensures ∙ ap (λ n. blank n false) c.skip_blanks.ensures.value in
     let x = outcome_state text Clause Head _ _ (min at (length text)) u c.read.result e c.read.ensures.reads in
     record {
       reads = x;

@@ -2,13 +2,13 @@ use Rattle.std.proofs.Common.{rules}
 use Rattle.draft.specs.Sketch.{entered}
 use Rattle.draft.proofs.Draft.enter.Goals as goal
 
-pub returns-in-err-open-bracket : goal.returns-in-err-open-bracket
+pub returns-in_err-open_bracket-in-Open : goal.returns-in_err-open_bracket-in-Open
 unfolding entered
-returns-in-err-open-bracket c = search rules
+returns-in_err-open_bracket-in-Open c = search rules
 
-pub returns-in-ok-open-bracket : goal.returns-in-ok-open-bracket
+pub returns-in_ok-open_bracket-in-Open : goal.returns-in_ok-open_bracket-in-Open
 unfolding entered
-returns-in-ok-open-bracket c = search rules
+returns-in_ok-open_bracket-in-Open c = search rules
 
 pub returns-in-Close : goal.returns-in-Close
 unfolding entered
@@ -22,6 +22,6 @@ pub returns-in-Comma : goal.returns-in-Comma
 unfolding entered
 returns-in-Comma c = search rules
 
-pub returns-in-default : goal.returns-in-default
+pub returns-in_default : goal.returns-in_default
 unfolding entered
-returns-in-default c = search rules
+returns-in_default c = search rules

@@ -1,4 +1,4 @@
-use Rattle.std.proofs.Common.{◌≡◌, ◌++◌, vec_items, sym, refl, ap, ◌∙◌, arith, rules}
+use Rattle.std.proofs.Common.{◌≡◌, ◌++◌, vec_items, sym, ap, ◌∙◌, arith}
 use Rattle.std.proofs.lemmas.List.{append-nil}
 use Rattle.draft.specs.Sketch.{Sketch, no_cell}
 use Rattle.names.specs.Spans.{words_in}
@@ -11,23 +11,23 @@ use Rattle.draft.proofs.Draft.number.Goals as goal
 pub loop-i-preserved : goal.loop-i-preserved
 loop-i-preserved c =
     let s = c.loop-i.self in
-    let t = c.number-cell.new.self in
+    let t = c.number_cell.new.self in
     let names = c.args.names.now in
     let text = c.args.text.now in
-    let e = c.number-cell.ensures.sketch in
+    let e = c.number_cell.ensures.sketch in
     let ec = ap (λ (x : Sketch). x.cells) e in
     let es = ap (λ (x : Sketch). x.spans) e in
     let k = s.cells.ok.0 in
     let j = s.spans.ok.0 in
     let l = s.level in (
-      omega (arith, c.number-cell.ensures.fresh),
-      c.number-cell.ensures.cells ∙ c.loop-i.invariant.1,
+      omega (arith, c.number_cell.ensures.fresh),
+      c.number_cell.ensures.cells ∙ c.loop-i.invariant.1,
       ap (λ (x : Sketch). x.start) e ∙ c.loop-i.invariant.2,
       numbered_step text (known names text s) (known names text t) (vec_items s.cells) (vec_items t.cells) (vec_items s.spans) (vec_items t.spans) c.loop-i.i no_cell no_span
-          (omega arith) (omega arith) ec es c.number-cell.ensures.words
+          (omega arith) (omega arith) ec es c.number_cell.ensures.words
           ∙ c.loop-i.invariant.3,
       after_step text (known names text s) (known names text t) (vec_items s.cells) (vec_items t.cells) (vec_items s.spans) (vec_items t.spans) c.loop-i.i no_cell no_span _
-          (omega arith) (omega arith) ec es c.number-cell.ensures.words
+          (omega arith) (omega arith) ec es c.number_cell.ensures.words
           ∙ c.loop-i.invariant.4,
     )
 

@@ -1,5 +1,4 @@
 use Rattle.std.proofs.Common.{◌≡◌, ◌≤◌, ◌++◌, take, drop, vec_items, vec_len}
-use Rattle.names.specs.Words.{names_of}
 use Rattle.draft.specs.Numbering.{numbered_all, words_after, known}
 use Rattle.draft.proofs.Draft.number.Given as goal
 

@@ -1,9 +1,8 @@
-use Rattle.std.proofs.Common.{◌≡◌, [], ◌∷◌, ◌++◌, length, vec_items, sym, refl, ap, ◌∙◌, append_assoc, arith, rules}
+use Rattle.std.proofs.Common.{[], ◌∷◌, ◌++◌, vec_items, sym, refl, ap, ◌∙◌, append_assoc, arith, rules}
 use Rattle.std.proofs.lemmas.List.{length-append}
 use Rattle.names.specs.Spans.{words_in, word_at}
 use Rattle.names.specs.Words.{names_of}
 use Rattle.draft.specs.Numbering.{known}
-use Rattle.names.specs.Places.{place_of}
 use Rattle.names.proofs.Tables.{length_words, words_push}
 use Rattle.names.proofs.Finding.{place_same, word_known, word_new}
 use Rattle.draft.proofs.Draft.symbol.Goals as goal
@@ -14,7 +13,7 @@ returns-then-n-len c =
     let self = c.args.self.now in
     let text = c.args.text.now in
     let w = word_at text c.args.span in
-    let e = c.place-n.ensures.value ∙ place_same _ w text text (names_of names) (names_of names) _ (vec_items self.fresh) c.word.ensures refl c.as-slice.ensures.value refl in
+    let e = c.place-n.ensures.value ∙ place_same _ w text text (names_of names) (names_of names) _ (vec_items self.fresh) c.word.ensures refl c.as_slice.ensures.value refl in
     let a = length-append (names_of names) (words_in text (vec_items self.fresh)) in
     let l = length_words (vec_items names.bytes) (vec_items names.spans) in
     let m = length_words text (vec_items self.fresh) in
@@ -28,17 +27,17 @@ returns c =
     let self = c.args.self.now in
     let text = c.args.text.now in
     let w = word_at text c.args.span in
-    let e = c.place-n.ensures.value ∙ place_same _ w text text (names_of names) (names_of names) _ (vec_items self.fresh) c.word.ensures refl c.as-slice.ensures.value refl in
+    let e = c.place-n.ensures.value ∙ place_same _ w text text (names_of names) (names_of names) _ (vec_items self.fresh) c.word.ensures refl c.as_slice.ensures.value refl in
     let a = length-append (names_of names) (words_in text (vec_items self.fresh)) in
     let l = length_words (vec_items names.bytes) (vec_items names.spans) in
     let m = length_words text (vec_items self.fresh) in
     let k = names.spans.ok.0 in
     let j = self.fresh.ok.0 in
-    let b = c.as-slice.ensures.len in
+    let b = c.as_slice.ensures.len in
     record {
       value = e;
       words =
-          ap (λ ss. names_of names ++ words_in text ss) c.push-reserved.ensures.items
+          ap (λ ss. names_of names ++ words_in text ss) c.push_reserved.ensures.items
           ∙ (ap (λ ws. names_of names ++ ws) (words_push text (vec_items self.fresh) c.args.span)
           ∙ (sym (append_assoc (names_of names) (words_in text (vec_items self.fresh)) (w ∷ [])) ∙ sym (word_new w (known names text self) (omega arith))));
       kept = refl;

@@ -6,6 +6,6 @@ use Rattle.lexis.proofs.worth.integer.Goals as goal
 
 pub returns-then-word-eq45 : goal.returns-then-word-eq45
 returns-then-word-eq45 c =
-    c.below-zero.ensures
+    c.below_zero.ensures
     ∙ (ap (λ xs. negated (decimal xs)) (take_rest c.args.word.now 1)
     ∙ sym (cond-true (eqb (get_or c.args.word.now 0 0) 45) _ _ (eq-eqb (get_or c.args.word.now 0 0) 45 c.if-word-eq45.true)))

@@ -1,6 +1,6 @@
-use Rattle.std.proofs.Common.{◌≡◌, [], ◌∷◌, ◌++◌, length, get_or, take, sym, ap, ◌∙◌, append_assoc, arith, rules}
+use Rattle.std.proofs.Common.{[], ◌∷◌, ◌++◌, length, get_or, take, sym, ap, ◌∙◌, append_assoc, arith, rules}
 use Rattle.std.proofs.lemmas.List.{append-nil}
-use Rattle.names.specs.Spans.{bytes_of, words_in, word_at}
+use Rattle.names.specs.Spans.{words_in, word_at}
 use Rattle.names.specs.Words.{names_of}
 use Rattle.names.proofs.Tables.{bytes_from, words_none, words_more, words_all}
 use Rattle.names.proofs.Names.add_all.Goals as goal

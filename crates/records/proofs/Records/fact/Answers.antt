@@ -1,4 +1,4 @@
-use Rattle.std.proofs.Common.{◌≡◌, length, get_or, sym, refl, ap, arith}
+use Rattle.std.proofs.Common.{length, ap, arith}
 use Rattle.std.proofs.lemmas.List.{get_or_default}
 use Rattle.records.specs.Sourcing.{clauses_count, fact_some}
 use Rattle.records.proofs.Records.fact.Goals as goal

@@ -1,4 +1,4 @@
-use Rattle.std.proofs.Common.{◌≡◌, sym, arith, rules}
+use Rattle.std.proofs.Common.{arith}
 use Rattle.records.proofs.Bytes.{little_four}
 use Rattle.records.proofs.format.long.Goals as goal
 

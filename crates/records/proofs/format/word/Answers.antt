@@ -1,4 +1,4 @@
-use Rattle.std.proofs.Common.{◌≡◌, sym, arith, rules}
+use Rattle.std.proofs.Common.{arith}
 use Rattle.records.proofs.Bytes.{little_two}
 use Rattle.records.proofs.format.word.Goals as goal
 

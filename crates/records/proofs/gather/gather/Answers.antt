@@ -1,4 +1,4 @@
-use Rattle.std.proofs.Common.{◌≡◌, ◌+◌, ◌<◌, ◌++◌, length, drop, vec_items, vec_len, filter, sym, refl, ap, ◌∙◌, arith}
+use Rattle.std.proofs.Common.{◌≡◌, ◌+◌, ◌<◌, ◌++◌, drop, vec_items, filter, sym, ap, ◌∙◌, arith}
 use Rattle.records.specs.Format.{record_in}
 use Rattle.records.specs.Faults.{end_of, records_of}
 use Rattle.records.specs.Facts.{is_for, record_facts, facts_of, cut}
@@ -11,16 +11,16 @@ pub loop-at-preserved : goal.loop-at-preserved
 loop-at-preserved c =
     let bs = c.args.bytes.now in
     let at = c.loop-at.at in
-    let n = c.fields-len.result in
+    let n = c.fields_len.result in
     let s = c.args.symbols in
     let h : 0 < end_of (drop at bs) = omega arith in
     let g = end_some (drop at bs) h in
-    let m = end_more bs at n c.fields-len.ensures.value (omega arith) g.1 in
-    let r = records_more bs at n c.fields-len.ensures.value (omega arith) g.1 in
-    let w : vec_items c.add-record.new.facts ≡ cut (vec_items c.loop-at.facts ++ filter (is_for c.args.symbol) (record_facts s (record_in (drop at bs)))) =
-    c.in-ok-add-record.ensures.items ∙ ap (λ t. cut (vec_items c.loop-at.facts ++ filter (is_for c.args.symbol) (record_facts s t))) c.record-at.ensures in (
-      gather_more s (is_for c.args.symbol) (vec_items c.loop-at.facts) (vec_items c.add-record.new.facts) (record_in (drop at bs)) (records_of (drop (at + (1 + n)) bs)) (records_of (drop at bs)) _ r w c.loop-at.invariant.0,
-      c.in-ok-add-record.ensures.few,
+    let m = end_more bs at n c.fields_len.ensures.value (omega arith) g.1 in
+    let r = records_more bs at n c.fields_len.ensures.value (omega arith) g.1 in
+    let w : vec_items c.add_record.new.facts ≡ cut (vec_items c.loop-at.facts ++ filter (is_for c.args.symbol) (record_facts s (record_in (drop at bs)))) =
+    c.in_ok-add_record.ensures.items ∙ ap (λ t. cut (vec_items c.loop-at.facts ++ filter (is_for c.args.symbol) (record_facts s t))) c.record_at.ensures in (
+      gather_more s (is_for c.args.symbol) (vec_items c.loop-at.facts) (vec_items c.add_record.new.facts) (record_in (drop at bs)) (records_of (drop (at + (1 + n)) bs)) (records_of (drop at bs)) _ r w c.loop-at.invariant.0,
+      c.in_ok-add_record.ensures.few,
       sym m.0 ∙ c.loop-at.invariant.2,
       c.loop-at.invariant.3,
     )
@@ -32,4 +32,4 @@ returns c =
     let all : vec_items c.loop-at.facts ≡ cut (filter (is_for c.args.symbol) (facts_of c.args.symbols bs)) =
     gather_all c.args.symbols (is_for c.args.symbol) (vec_items c.loop-at.facts) _ (records_of (drop c.loop-at.at bs)) (omega arith) (records_end (drop c.loop-at.at bs) (omega arith))
     c.loop-at.invariant.0 in
-    (all, gathered_fit c.args.symbols c.args.symbol bs (vec_items c.loop-at.facts) (omega arith) (λ i. let t = c.type-inv.bytes i in omega arith) all, c.loop-at.invariant.1)
+    (all, gathered_fit c.args.symbols c.args.symbol bs (vec_items c.loop-at.facts) (omega arith) (λ i. let t = c.type_inv.bytes i in omega arith) all, c.loop-at.invariant.1)

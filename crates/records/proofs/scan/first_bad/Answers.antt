@@ -1,10 +1,10 @@
-use Rattle.std.proofs.Common.{◌≡◌, sym, ◌∙◌, arith}
+use Rattle.std.proofs.Common.{sym, ◌∙◌, arith}
 use Rattle.records.proofs.Scanning.{end_more, end_none, end_here}
 use Rattle.records.proofs.scan.first_bad.Goals as goal
 
 pub loop-at-preserved : goal.loop-at-preserved
 loop-at-preserved c =
-    let m = end_more c.args.bytes.now c.loop-at.at c.fields-len.result c.fields-len.ensures.value c.if-at-bytes.false (sym c.fault-at.ensures ∙ c.in-default.is) in
+    let m = end_more c.args.bytes.now c.loop-at.at c.fields_len.result c.fields_len.ensures.value c.if-at-bytes.false (sym c.fault_at.ensures ∙ c.in_default.is) in
     (sym m.0 ∙ c.loop-at.invariant.0, m.1)
 
 pub returns-then-at-bytes : goal.returns-then-at-bytes
@@ -12,5 +12,5 @@ returns-then-at-bytes c = let e = end_none c.args.bytes.now c.loop-at.at (omega 
 
 pub returns-in-Some : goal.returns-in-Some
 returns-in-Some c =
-    let e = end_here c.args.bytes.now c.loop-at.at c.in-Some.field-0 (sym c.fault-at.ensures ∙ c.in-Some.is) in
+    let e = end_here c.args.bytes.now c.loop-at.at c.in-Some.field-0 (sym c.fault_at.ensures ∙ c.in-Some.is) in
     record { place = omega arith; within = omega arith }

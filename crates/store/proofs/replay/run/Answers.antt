@@ -1,7 +1,7 @@
-use Rattle.std.proofs.Common.{◌≡◌, ℕ, ◌+◌, ◌<◌, List, length, take, drop, sym, refl, ap, ◌∙◌, subst, arith}
-use Rattle.std.proofs.lemmas.List.{drop-set-lt, drop-drop, take_all}
+use Rattle.std.proofs.Common.{◌≡◌, ℕ, ◌+◌, ◌<◌, List, length, drop, sym, refl, ap, ◌∙◌, subst, arith}
+use Rattle.std.proofs.lemmas.List.{drop-set-lt, drop-drop}
 use Rattle.store.specs.declared.call.Reply.{Reply}
-use Rattle.store.specs.History.{History, Fixed, fixed, world, none}
+use Rattle.store.specs.History.{none}
 use Rattle.store.proofs.Histories.{history_written, ran_all, same_fixed}
 use Rattle.store.proofs.replay.run.Goals as goal
 

@@ -1,6 +1,6 @@
-use Rattle.std.proofs.Common.{◌≡◌, ℕ, ◌+◌, ◌<◌, ◌≤◌, true, cond, List, [], length, take, Some, None, All, sym, refl, ap, ◌∙◌, arith}
+use Rattle.std.proofs.Common.{◌≡◌, ℕ, ◌<◌, ◌≤◌, true, List, length, take, All, sym, ap, ◌∙◌, arith}
 use Rattle.std.specs.List.{flat_map}
-use Rattle.std.proofs.lemmas.List.{length-take-le, length-set, take_all}
+use Rattle.std.proofs.lemmas.List.{length-set, take_all}
 use Rattle.std.proofs.lemmas.Bool.{cond-true}
 use Rattle.resolution.specs.State.{standing_cells, stands}
 use Rattle.terms.specs.declared.Cell.{Cell}
@@ -24,12 +24,12 @@ unreachable-requires c =
     let e = c.entry-entry.result in
     let n = c.count-n.ensures.0 in let m = c.count-n.ensures.1 in
     let r = room t c.loop-i.i e (standing_cells c.loop-i.search) (omega arith) (omega arith) c.entry-entry.ensures.sound c.loop-i.invariant.0 in
-    let w = c.in-default.ensures.value in
+    let w = c.in_default.ensures.value in
     let v = w ∙ cond-true (stands (standing_cells c.loop-i.search) (part e)) _ _ r in
     absurd (let z : ◌≡◌ {A = ℕ} 0 1 = cc in omega arith)
 
-pub overflow-add-places : goal.overflow-add-places
-overflow-add-places c =
+pub overflow_add-places : goal.overflow_add-places
+overflow_add-places c =
     let t = c.args.table.now in
     let e = c.entry-entry.result in
     let n = c.count-n.ensures.0 in let m = c.count-n.ensures.1 in

@@ -1,4 +1,4 @@
-use Rattle.std.proofs.Common.{◌≡◌, ℕ, ◌<◌, length}
+use Rattle.std.proofs.Common.{◌≡◌, ◌<◌, length}
 use Rattle.graphs.specs.Graph.{find}
 use Rattle.graphs.specs.Links.{up_of}
 use Rattle.unification.proofs.links.find.Given as goal

@@ -1,4 +1,4 @@
-use Rattle.std.proofs.Common.{◌≡◌, ℕ, ◌+◌, ◌<◌, ◌≤◌, List, length, drop, sym, refl, ap, ◌∙◌, arith}
+use Rattle.std.proofs.Common.{◌≡◌, ℕ, ◌<◌, ◌≤◌, List, length, drop, ap, ◌∙◌, arith}
 use Rattle.terms.specs.declared.Cell.{Cell}
 use Rattle.graphs.specs.Cells.{span, after}
 use Rattle.graphs.proofs.CellLaws.{span_more, span_zero, span_past, after_le, after_past}

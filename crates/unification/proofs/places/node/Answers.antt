@@ -1,6 +1,5 @@
-use Rattle.std.proofs.Common.{◌≡◌, refl, ap}
 use Rattle.std.proofs.lemmas.List.{get_or_past}
-use Rattle.graphs.specs.Cells.{blank, node_of}
+use Rattle.graphs.specs.Cells.{blank}
 use Rattle.unification.proofs.places.node.Goals as goal
 
 pub returns-else-place-cells : goal.returns-else-place-cells

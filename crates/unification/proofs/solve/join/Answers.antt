@@ -1,32 +1,32 @@
-use Rattle.std.proofs.Common.{◌≡◌, List, [], ◌∷◌, ◌++◌, length, set, vec_items, sym, refl, ap, ◌∙◌, subst, arith}
+use Rattle.std.proofs.Common.{vec_items, sym, refl, ◌∙◌}
 use Rattle.unification.specs.Held.{held, count, room}
 use Rattle.graphs.proofs.Lists.{logged_none}
-use Rattle.unification.proofs.Runs.{join-bind, join-same, join-unequal, join-clash, join-args, room-args, plain-link}
+use Rattle.unification.proofs.Runs.{join_bind, join_same, join_unequal, join_clash, join_args, room_args, plain_link}
 use Rattle.unification.proofs.solve.join.Goals as goal
 
-pub push-args-requires : goal.push-args-requires
-push-args-requires g c =
+pub push_args-requires : goal.push_args-requires
+push_args-requires g c =
     let a = c.in-Args.ensures in
     record {
       small = c.requires.ready.small;
-      spare = room-args c.args.cells.now c.args.links.now (held c.args.pairs.now) (count c.args.pairs.now) (room c.args.pairs.now) c.args.r c.args.q c.requires.ready c.requires.above c.requires.inside c.requires.top a.0 c.in-Args.n a.1.0;
+      spare = room_args c.args.cells.now c.args.links.now (held c.args.pairs.now) (count c.args.pairs.now) (room c.args.pairs.now) c.args.r c.args.q c.requires.ready c.requires.above c.requires.inside c.requires.top a.0 c.in-Args.n a.1.0;
     }
 
-pub returns-then-is-function : goal.returns-then-is-function
-returns-then-is-function g c = record {
+pub returns-then-is_function : goal.returns-then-is_function
+returns-then-is_function g c = record {
   logged = c.link.ensures.logged;
   capacity = c.link.ensures.capacity;
   turned = λ p tie left right.
-      join-bind c.args.cells.now c.args.links.now (held c.args.pairs.now) (count c.args.pairs.now) (room c.args.pairs.now) c.args.r c.args.q c.requires.ready c.requires.above c.requires.inside c.requires.top p tie left right (g.S.Signature.kind c.args.signature.now) c.in-Bind.ensures c.link.new.links c.link.ensures.linked;
+      join_bind c.args.cells.now c.args.links.now (held c.args.pairs.now) (count c.args.pairs.now) (room c.args.pairs.now) c.args.r c.args.q c.requires.ready c.requires.above c.requires.inside c.requires.top p tie left right (g.S.Signature.kind c.args.signature.now) c.in-Bind.ensures c.link.new.links c.link.ensures.linked;
 }
 
-pub returns-else-is-function : goal.returns-else-is-function
-returns-else-is-function g c = record {
+pub returns-else-is_function : goal.returns-else-is_function
+returns-else-is_function g c = record {
   logged = c.link.ensures.logged;
   capacity = c.link.ensures.capacity;
   turned = λ p tie left right. (
-    join-bind c.args.cells.now c.args.links.now (held c.args.pairs.now) (count c.args.pairs.now) (room c.args.pairs.now) c.args.r c.args.q c.requires.ready c.requires.above c.requires.inside c.requires.top p tie left right (g.S.Signature.kind c.args.signature.now) c.in-Bind.ensures c.link.new.links c.link.ensures.linked,
-    plain-link c.args.cells.now c.args.links.now (held c.args.pairs.now) (count c.args.pairs.now) (room c.args.pairs.now) c.args.r c.args.q c.requires.ready c.requires.above c.requires.inside c.requires.top (g.S.Signature.kind c.args.signature.now) c.in-Bind.ensures c.requires.lower (sym c.is-function.ensures ∙ c.if-is-function.false) c.link.new.links c.link.ensures.linked,
+    join_bind c.args.cells.now c.args.links.now (held c.args.pairs.now) (count c.args.pairs.now) (room c.args.pairs.now) c.args.r c.args.q c.requires.ready c.requires.above c.requires.inside c.requires.top p tie left right (g.S.Signature.kind c.args.signature.now) c.in-Bind.ensures c.link.new.links c.link.ensures.linked,
+    plain_link c.args.cells.now c.args.links.now (held c.args.pairs.now) (count c.args.pairs.now) (room c.args.pairs.now) c.args.r c.args.q c.requires.ready c.requires.above c.requires.inside c.requires.top (g.S.Signature.kind c.args.signature.now) c.in-Bind.ensures c.requires.lower (sym c.is_function.ensures ∙ c.if-is_function.false) c.link.new.links c.link.ensures.linked,
   );
 }
 
@@ -35,7 +35,7 @@ returns-in-Same g c = record {
   logged = logged_none c.args.links.now (vec_items c.args.trail.now);
   capacity = refl;
   turned = λ p tie left right.
-      (join-same c.args.cells.now c.args.links.now (held c.args.pairs.now) (count c.args.pairs.now) (room c.args.pairs.now) c.args.r c.args.q c.requires.ready c.requires.above c.requires.inside c.requires.top p tie left right (g.S.Signature.kind c.args.signature.now) c.in-Same.ensures, λ a. a);
+      (join_same c.args.cells.now c.args.links.now (held c.args.pairs.now) (count c.args.pairs.now) (room c.args.pairs.now) c.args.r c.args.q c.requires.ready c.requires.above c.requires.inside c.requires.top p tie left right (g.S.Signature.kind c.args.signature.now) c.in-Same.ensures, λ a. a);
 }
 
 pub returns-in-Unequal : goal.returns-in-Unequal
@@ -43,7 +43,7 @@ returns-in-Unequal g c = record {
   logged = logged_none c.args.links.now (vec_items c.args.trail.now);
   capacity = refl;
   turned = λ p tie left right.
-      (join-unequal c.args.cells.now c.args.links.now (held c.args.pairs.now) (count c.args.pairs.now) (room c.args.pairs.now) c.args.r c.args.q c.requires.ready c.requires.above c.requires.inside c.requires.top p tie left right (g.S.Signature.kind c.args.signature.now) c.in-Unequal.ensures, λ a. a);
+      (join_unequal c.args.cells.now c.args.links.now (held c.args.pairs.now) (count c.args.pairs.now) (room c.args.pairs.now) c.args.r c.args.q c.requires.ready c.requires.above c.requires.inside c.requires.top p tie left right (g.S.Signature.kind c.args.signature.now) c.in-Unequal.ensures, λ a. a);
 }
 
 pub returns-in-Clash : goal.returns-in-Clash
@@ -51,7 +51,7 @@ returns-in-Clash g c = record {
   logged = logged_none c.args.links.now (vec_items c.args.trail.now);
   capacity = refl;
   turned = λ p tie left right.
-      (c.requires.ready.down, join-clash c.args.cells.now c.args.links.now (held c.args.pairs.now) (count c.args.pairs.now) (room c.args.pairs.now) c.args.r c.args.q c.requires.ready c.requires.above c.requires.inside c.requires.top p tie left right (g.S.Signature.kind c.args.signature.now) c.in-Clash.ensures);
+      (c.requires.ready.down, join_clash c.args.cells.now c.args.links.now (held c.args.pairs.now) (count c.args.pairs.now) (room c.args.pairs.now) c.args.r c.args.q c.requires.ready c.requires.above c.requires.inside c.requires.top p tie left right (g.S.Signature.kind c.args.signature.now) c.in-Clash.ensures);
 }
 
 pub returns-in-Args : goal.returns-in-Args
@@ -59,6 +59,6 @@ returns-in-Args g c = record {
   logged = c.link-in-Args.ensures.logged;
   capacity = c.link-in-Args.ensures.capacity;
   turned = λ p tie left right.
-      join-args c.args.cells.now c.args.links.now (held c.args.pairs.now) (count c.args.pairs.now) (room c.args.pairs.now) c.args.r c.args.q c.requires.ready c.requires.above c.requires.inside c.requires.top p tie left right (g.S.Signature.kind c.args.signature.now)
-      c.in-Args.n c.in-Args.ensures c.link-in-Args.new.links c.link-in-Args.ensures.linked (held c.push-args.new.pairs) c.push-args.ensures.held (count c.push-args.new.pairs) c.push-args.ensures.count (room c.push-args.new.pairs) c.push-args.ensures.room;
+      join_args c.args.cells.now c.args.links.now (held c.args.pairs.now) (count c.args.pairs.now) (room c.args.pairs.now) c.args.r c.args.q c.requires.ready c.requires.above c.requires.inside c.requires.top p tie left right (g.S.Signature.kind c.args.signature.now)
+      c.in-Args.n c.in-Args.ensures c.link-in-Args.new.links c.link-in-Args.ensures.linked (held c.push_args.new.pairs) c.push_args.ensures.held (count c.push_args.new.pairs) c.push_args.ensures.count (room c.push_args.new.pairs) c.push_args.ensures.room;
 }

@@ -1,9 +1,9 @@
-use Rattle.std.proofs.Common.{◌≡◌, ℕ, ◌+◌, ◌-◌, ◌<◌, ◌≤◌, List, ◌∷◌, sym, refl, ap, ◌∙◌, subst, arith}
+use Rattle.std.proofs.Common.{◌≡◌, ℕ, ◌+◌, ◌-◌, ◌<◌, List, refl, ◌∙◌, arith}
 use Rattle.terms.specs.declared.Cell.{Cell}
 use Rattle.graphs.specs.declared.Pair.{Pair}
 use Rattle.graphs.specs.Graph.{onto}
-use Rattle.graphs.specs.Cells.{arguments, node_at, after}
-use Rattle.unification.specs.Held.{held, count, room}
+use Rattle.graphs.specs.Cells.{arguments, after}
+use Rattle.unification.specs.Held.{held}
 use Rattle.graphs.proofs.CellLaws.{arguments_more}
 use Rattle.unification.proofs.solve.push_args.Goals as goal
 
@@ -21,7 +21,7 @@ loop-i-preserved c =
     let h = c.put.ensures.held in (
       elim c.if-i-n.branch [
         | goal.then-i-n w ↦
-            let ax = w.x-is ∙ w.end-of-x.ensures.value in let ay = w.y-is ∙ w.end-of-y.ensures.value in rw (h, nx, ny, ax, ay) m
+            let ax = w.x-is ∙ w.end_of-x.ensures.value in let ay = w.y-is ∙ w.end_of-y.ensures.value in rw (h, nx, ny, ax, ay) m
         | goal.else-i-n w ↦
             anywhere cs (n - (i + 1)) c.if-i-n.x c.if-i-n.y (after cs x) (after cs y) (held c.put.new.self) (let no = w.if-i-n.false in omega arith) ∙ rw (h, nx, ny) m
       ],

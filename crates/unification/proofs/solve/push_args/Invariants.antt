@@ -1,4 +1,4 @@
-use Rattle.std.proofs.Common.{◌≡◌, ℕ, ◌+◌, ◌-◌}
+use Rattle.std.proofs.Common.{◌≡◌, ◌+◌, ◌-◌}
 use Rattle.graphs.specs.Graph.{onto}
 use Rattle.graphs.specs.Cells.{arguments}
 use Rattle.unification.specs.Held.{held, count, room}

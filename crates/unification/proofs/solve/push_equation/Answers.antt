@@ -4,20 +4,20 @@ use Rattle.graphs.specs.Cells.{blank}
 use Rattle.graphs.proofs.Wholes.{all_fits, fits_arity}
 use Rattle.unification.proofs.solve.push_equation.Goals as goal
 
-pub push-args-requires : goal.push-args-requires
-push-args-requires c =
+pub push_args-requires : goal.push_args-requires
+push_args-requires c =
     let cs = c.args.cells.now in
     let h = fits_arity (get_or cs c.args.left blank) (all_fits cs c.args.left c.requires.fit) in
     let s = c.requires.spare in
     record { small = c.requires.small; spare = omega arith }
 
-pub returns-then-functors-match : goal.returns-then-functors-match
-returns-then-functors-match c =
+pub returns-then-functors_match : goal.returns-then-functors_match
+returns-then-functors_match c =
     let cs = c.args.cells.now in
     let h = fits_arity (get_or cs c.args.left blank) (all_fits cs c.args.left c.requires.fit) in
-    let n = c.push-args.ensures.count in
+    let n = c.push_args.ensures.count in
     record {
-      held = c.push-args.ensures.held ∙ sym (cond-true _ _ _ (sym c.if-functors-match.ensures));
+      held = c.push_args.ensures.held ∙ sym (cond-true _ _ _ (sym c.if-functors_match.ensures));
       count = omega arith;
-      room = c.push-args.ensures.room;
+      room = c.push_args.ensures.room;
     }

@@ -1,4 +1,4 @@
-use Rattle.std.proofs.Common.{◌≡◌, ℕ, ◌+◌, true, false, List, vec_items, vec_capacity}
+use Rattle.std.proofs.Common.{◌≡◌, ◌+◌, true, false, List, vec_items, vec_capacity}
 use Rattle.graphs.specs.declared.Pair.{Pair}
 use Rattle.graphs.specs.Links.{up_of, weight, Logged}
 use Rattle.graphs.specs.Meaning.{Going}

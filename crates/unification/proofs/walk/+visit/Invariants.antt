@@ -1,4 +1,4 @@
-use Rattle.std.proofs.Common.{ℕ, ◌+◌}
+use Rattle.std.proofs.Common.{◌+◌}
 use Rattle.graphs.specs.Search.{Amid, zeros}
 use Rattle.unification.proofs.walk.+visit.Given as goal
 

@@ -1,4 +1,4 @@
-use Rattle.std.proofs.Common.{◌≡◌, sym, ap, ◌∙◌, arith}
+use Rattle.std.proofs.Common.{arith}
 use Rattle.clauses.specs.PairsLemmas.{length_joint}
 use Rattle.clauses.proofs.pair.PairSource.count.Goals as goal
 

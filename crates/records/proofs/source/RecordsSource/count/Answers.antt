@@ -1,4 +1,4 @@
-use Rattle.std.proofs.Common.{◌≡◌, length, sym, ap, ◌∙◌}
+use Rattle.std.proofs.Common.{length, sym, ap, ◌∙◌}
 use Rattle.records.specs.Sourcing.{clauses_count}
 use Rattle.records.proofs.source.RecordsSource.count.Goals as goal
 

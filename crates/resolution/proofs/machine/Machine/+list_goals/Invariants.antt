@@ -3,5 +3,5 @@ use Rattle.unification.specs.State.{cells_of}
 use Rattle.resolution.proofs.machine.Machine.+list_goals.Given as goal
 
 -- the cells from the place on
-abbrev pub decreases-list-goals : goal.decreases-list-goals
-decreases-list-goals l = length (cells_of l.self.now.bindings) - l.place
+abbrev pub decreases-list_goals : goal.decreases-list_goals
+decreases-list_goals l = length (cells_of l.self.now.bindings) - l.place

@@ -1,4 +1,4 @@
-use Rattle.std.proofs.Common.{◌≡◌, sym, refl, ap, ◌∙◌, subst, arith, rules}
+use Rattle.std.proofs.Common.{subst, arith, rules}
 use Rattle.std.proofs.lemmas.Result.{MatchResult-from_err}
 use Rattle.unification.specs.Held.{held}
 use Rattle.frames.specs.Owed.{Underway}
@@ -22,14 +22,14 @@ turn-requires g c =
       few = inv.3;
     }
 
-pub returns-in-err-tally : goal.returns-in-err-tally
-returns-in-err-tally g c =
+pub returns-in_err-tally : goal.returns-in_err-tally
+returns-in_err-tally g c =
     record {
       within = search rules;
       walked = λ home prog whole spells on.
           let Now-on = c.loop-frame.invariant.4 home prog whole spells on in
           let popped = subst (λ fs. Underway home prog (g.K.Signature.kind c.args.kinds.now) c.args.settings.limit whole (memory c.loop-frame.self) (branch c.loop-frame.self) (shortest c.loop-frame.self) fs c.loop-frame.tally) c.in-Some.ensures.held Now-on in
-          MatchResult-from_err _ _ _ c.from-residual.ensures.0 (λ _. c.in-err-tally.ensures.underway home prog whole spells popped);
+          MatchResult-from_err _ _ _ c.from_residual.ensures.0 (λ _. c.in_err-tally.ensures.underway home prog whole spells popped);
     }
 
 pub returns : goal.returns
@@ -38,5 +38,5 @@ returns g c =
       within = search rules;
       walked = λ home prog whole spells on.
           walk_ended home prog (g.K.Signature.kind c.args.kinds.now) c.args.settings.limit whole (memory c.loop-frame.self) (branch c.loop-frame.self) (shortest c.loop-frame.self) (held c.loop-frame.frames) c.loop-frame.tally
-          c.in-default.ensures.held.0 (c.loop-frame.invariant.4 home prog whole spells on);
+          c.in_default.ensures.held.0 (c.loop-frame.invariant.4 home prog whole spells on);
     }

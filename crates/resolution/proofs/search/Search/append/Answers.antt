@@ -1,4 +1,4 @@
-use Rattle.std.proofs.Common.{◌≡◌, ℕ, ◌+◌, ◌≤◌, Bool, true, false, cond, List, ◌++◌, length, sym, ap, subst, arith}
+use Rattle.std.proofs.Common.{◌≡◌, ◌+◌, ◌≤◌, Bool, true, false, cond, List, ◌++◌, length, ap, arith}
 use Rattle.std.proofs.lemmas.List.{length-append}
 use Rattle.terms.specs.declared.Cell.{Cell}
 use Rattle.unification.specs.State.{cells_of, takes}
@@ -8,8 +8,8 @@ few_after : (b : Bool) (xs ys zs : List Cell) → length xs + length ys ≤ 512 
 few_after true xs ys zs h e = let l = ap length e in let a = length-append xs ys in omega arith
 few_after false xs ys zs h e = let l = ap length e in omega arith
 
-pub invariant-of-self : goal.invariant-of-self
-invariant-of-self c =
+pub invariant_of-self : goal.invariant_of-self
+invariant_of-self c =
     let m = c.args.self.now.machine in
     let few = c.args.self.now.few in
     let h : length (cells_of m.bindings) + length c.args.cells.now ≤ 512 = omega arith in

@@ -1,4 +1,4 @@
-use Rattle.std.proofs.Common.{◌≡◌, Some, None, Ok, Err, sym, refl, ap, ◌∙◌}
+use Rattle.std.proofs.Common.{Some, None, Ok, Err, refl}
 use Rattle.store.specs.declared.Refusal.TheVariants.{OutputShort}
 use Rattle.store.proofs.Asking.{shown}
 use Rattle.store.proofs.solver.Solver.read.Goals as goal

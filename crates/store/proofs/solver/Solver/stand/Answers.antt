@@ -1,6 +1,5 @@
-use Rattle.std.proofs.Common.{◌≡◌, ℕ, ◌-◌, ◌≤◌, length, take, sym, ap, ◌∙◌, subst, arith}
-use Rattle.resolution.specs.State.{standing_cells, standing_links}
-use Rattle.store.specs.Entries.{Sound, places_from}
+use Rattle.std.proofs.Common.{◌≡◌, ◌-◌, length, take, sym, ap, ◌∙◌, subst, arith}
+use Rattle.resolution.specs.State.{standing_links}
 use Rattle.store.specs.Model.{standing_of, entries_of}
 use Rattle.store.specs.Solved.{Stood}
 use Rattle.store.proofs.Loading.{standing_sound}

@@ -1,11 +1,10 @@
-use Rattle.std.proofs.Common.{◌≡◌, ℕ, ◌<◌, ◌≤◌, List, length, Ok, Err, Result, sym, refl, ap, ◌∙◌, subst, arith}
+use Rattle.std.proofs.Common.{◌≡◌, length, Ok, Err, sym, refl, ap, ◌∙◌, subst, arith}
 use Rattle.std.proofs.lemmas.List.{length-map}
-use Rattle.terms.specs.declared.Cell.{Cell}
 use Rattle.store.specs.Entries.{cells_of}
 use Rattle.store.specs.Judged.{judged}
-use Rattle.store.specs.Model.{Model, model_of, standing_of, entries_of, with_entry}
+use Rattle.store.specs.Model.{model_of, standing_of, entries_of, with_entry}
 use Rattle.store.specs.Calls.{EnteredBy}
-use Rattle.store.proofs.Judging.{Accepted, accepted, new_cells, new_sound}
+use Rattle.store.proofs.Judging.{accepted, new_cells, new_sound}
 use Rattle.store.proofs.Asking.{told_of}
 use Rattle.store.proofs.store.Store.enter.Goals as goal
 

@@ -1,21 +1,21 @@
-use Rattle.std.proofs.Common.{◌≡◌, ℕ, ◌+◌, ◌≤◌, List, [], ◌∷◌, ◌++◌, length, take, drop, vec_items, vec_len, vec_capacity, sym, refl, ap, ◌∙◌, subst, arith}
+use Rattle.std.proofs.Common.{◌≡◌, ℕ, ◌+◌, ◌≤◌, List, [], length, drop, vec_items, vec_len, sym, refl, ap, ◌∙◌, subst, arith}
 use Rattle.terms.specs.declared.Cell.{Cell}
 use Rattle.graphs.specs.declared.Pair.{Pair}
-use Rattle.graphs.specs.Links.{up_of, weight, ones, Logged}
+use Rattle.graphs.specs.Links.{weight, ones}
 use Rattle.graphs.specs.Cells.{all_fit}
 use Rattle.unification.specs.Held.{held, count, room}
 use Rattle.unification.specs.Outcomes.{opened}
-use Rattle.unification.proofs.States.{refill, first_ready, after_equation, told-next, led-next}
+use Rattle.unification.proofs.States.{refill, first_ready, after_equation, told_next, led_next}
 use Rattle.unification.proofs.bindings.Bindings.equate.Goals as goal
 
 pushed : (cs : List Cell) (left right : ℕ) (old st : List Pair) → old ≡ [] → st ≡ opened cs left right old → st ≡ opened cs left right []
 pushed cs left right old st oe se = se ∙ ap (opened cs left right) oe
 
-pub push-equation-requires : goal.push-equation-requires
-push-equation-requires g c =
+pub push_equation-requires : goal.push_equation-requires
+push_equation-requires g c =
     let b = c.args.self.now in
     let few = b.few in let ok = b.cells.ok.0 in let m0 = c.new-pairs.ensures.room in let n0 = c.new-pairs.ensures.count in let pre = c.requires in
-    let e = c.as-slice-cells.ensures.value in
+    let e = c.as_slice-cells.ensures.value in
     record {
       small = let h = ap length e in omega arith;
       fit = ap all_fit e ∙ b.fit;
@@ -26,42 +26,51 @@ pub settle-requires : goal.settle-requires
 settle-requires g c =
     let b = c.args.self.now in
     let few = b.few in let nodes = b.nodes in let slots = b.slots in let ok = b.cells.ok.0 in let okl = b.links.ok.0 in
-    let cl = c.as-mut-slice.ensures.len in let ol = c.as-mut-slice-2.ensures.len in
-    let n = c.push-equation.ensures.count in let n0 = c.new-pairs.ensures.count in let m = c.push-equation.ensures.room in let m0 = c.new-pairs.ensures.room in let pre = c.requires in
+    let cl = c.as_mut_slice.ensures.len in let ol = c.as_mut_slice-2.ensures.len in
+    let n = c.push_equation.ensures.count in let n0 = c.new-pairs.ensures.count in let m = c.push_equation.ensures.room in let m0 = c.new-pairs.ensures.room in let pre = c.requires in
     record {
-      ready = first_ready (vec_items b.cells) c.as-slice-cells.result.now (vec_items b.links) c.as-mut-slice.result.now c.args.left c.args.right (held c.push-equation.new.pairs) (count c.push-equation.new.pairs) (room c.push-equation.new.pairs)
-          c.as-slice-cells.ensures.value c.as-mut-slice.ensures.value (omega arith) b.fit b.down (omega arith)
-          (pushed c.as-slice-cells.result.now c.args.left c.args.right (held c.new-pairs.result) (held c.push-equation.new.pairs) c.new-pairs.ensures.held c.push-equation.ensures.held)
+      ready = first_ready (vec_items b.cells) c.as_slice-cells.result.now (vec_items b.links) c.as_mut_slice.result.now c.args.left c.args.right (held c.push_equation.new.pairs) (count c.push_equation.new.pairs) (room c.push_equation.new.pairs)
+          c.as_slice-cells.ensures.value c.as_mut_slice.ensures.value (omega arith) b.fit b.down (omega arith)
+          (pushed c.as_slice-cells.result.now c.args.left c.args.right (held c.new-pairs.result) (held c.push_equation.new.pairs) c.new-pairs.ensures.held c.push_equation.ensures.held)
           (omega arith) (omega arith);
       nodes = omega arith;
       slots = omega arith;
-      paper = subst (λ l. weight ones 0 l + vec_len b.trail ≤ 2624) (sym c.as-mut-slice.ensures.value) b.paper;
+      paper = subst (λ l. weight ones 0 l + vec_len b.trail ≤ 2624) (sym c.as_mut_slice.ensures.value) b.paper;
       long = b.long;
     }
 
-pub invariant-of-self : goal.invariant-of-self
-invariant-of-self g c =
+pub invariant_of-self : goal.invariant_of-self
+invariant_of-self g c =
     let b = c.args.self.now in
-    let k = c.settle.auto.links in let nl = c.as-mut-slice.ensures.len in
+    let k = c.settle.auto.links in let nl = c.as_mut_slice.ensures.len in
     let be = refill b.links.len c.settle.new.links (drop (length c.settle.new.links) b.links.items) (omega arith) in
-    let w = after_equation (vec_items b.links) c.as-mut-slice.result.now c.settle.new.links _ (vec_items b.trail) (vec_items c.settle.new.trail) (vec_len b.trail) (vec_len c.settle.new.trail)
-    c.as-mut-slice.ensures.value be c.settle.ensures.logged b.trail.ok.0 c.settle.new.trail.ok.0 c.settle.ensures.down b.paper in
+    let w = after_equation (vec_items b.links) c.as_mut_slice.result.now c.settle.new.links _ (vec_items b.trail) (vec_items c.settle.new.trail) (vec_len b.trail) (vec_len c.settle.new.trail)
+    c.as_mut_slice.ensures.value be c.settle.ensures.logged b.trail.ok.0 c.settle.new.trail.ok.0 c.settle.ensures.down b.paper in
     let long = b.long in let cap = c.settle.ensures.capacity in
-    (b.few, (b.space, (b.fit, (b.nodes, (w.down, (w.paper, (omega arith, (b.slots, tt))))))))
+    record {
+      few = b.few;
+      space = b.space;
+      fit = b.fit;
+      nodes = b.nodes;
+      down = w.down;
+      paper = w.paper;
+      long = omega arith;
+      slots = b.slots;
+    }
 
 pub returns : goal.returns
 returns g c =
     let b = c.args.self.now in
-    let k = c.settle.auto.links in let nl = c.as-mut-slice.ensures.len in let few = b.few in let okc = b.cells.ok.0 in
+    let k = c.settle.auto.links in let nl = c.as_mut_slice.ensures.len in let few = b.few in let okc = b.cells.ok.0 in
     let be = refill b.links.len c.settle.new.links (drop (length c.settle.new.links) b.links.items) (omega arith) in
-    let w = after_equation (vec_items b.links) c.as-mut-slice.result.now c.settle.new.links _ (vec_items b.trail) (vec_items c.settle.new.trail) (vec_len b.trail) (vec_len c.settle.new.trail)
-    c.as-mut-slice.ensures.value be c.settle.ensures.logged b.trail.ok.0 c.settle.new.trail.ok.0 c.settle.ensures.down b.paper in
-    let se = pushed c.as-slice-cells.result.now c.args.left c.args.right (held c.new-pairs.result) (held c.push-equation.new.pairs) c.new-pairs.ensures.held c.push-equation.ensures.held in
+    let w = after_equation (vec_items b.links) c.as_mut_slice.result.now c.settle.new.links _ (vec_items b.trail) (vec_items c.settle.new.trail) (vec_len b.trail) (vec_len c.settle.new.trail)
+    c.as_mut_slice.ensures.value be c.settle.ensures.logged b.trail.ok.0 c.settle.new.trail.ok.0 c.settle.ensures.down b.paper in
+    let se = pushed c.as_slice-cells.result.now c.args.left c.args.right (held c.new-pairs.result) (held c.push_equation.new.pairs) c.new-pairs.ensures.held c.push_equation.ensures.held in
     record {
       cells = refl;
       logged = w.logged;
-      tells = told-next (g.S.Signature.kind c.args.signature.now) (vec_items b.cells) c.as-slice-cells.result.now (vec_items b.links) c.as-mut-slice.result.now c.args.left c.args.right (held c.push-equation.new.pairs) c.settle.new.links _ c.settle.result
-          c.as-slice-cells.ensures.value c.as-mut-slice.ensures.value (omega arith) se be c.settle.ensures.tells;
-      leads = led-next (g.S.Signature.kind c.args.signature.now) (vec_items b.cells) c.as-slice-cells.result.now (vec_items b.links) c.as-mut-slice.result.now c.args.left c.args.right (held c.push-equation.new.pairs) c.settle.new.links _ c.settle.result
-          c.as-slice-cells.ensures.value c.as-mut-slice.ensures.value (omega arith) se be c.settle.ensures.leads;
+      tells = told_next (g.S.Signature.kind c.args.signature.now) (vec_items b.cells) c.as_slice-cells.result.now (vec_items b.links) c.as_mut_slice.result.now c.args.left c.args.right (held c.push_equation.new.pairs) c.settle.new.links _ c.settle.result
+          c.as_slice-cells.ensures.value c.as_mut_slice.ensures.value (omega arith) se be c.settle.ensures.tells;
+      leads = led_next (g.S.Signature.kind c.args.signature.now) (vec_items b.cells) c.as_slice-cells.result.now (vec_items b.links) c.as_mut_slice.result.now c.args.left c.args.right (held c.push_equation.new.pairs) c.settle.new.links _ c.settle.result
+          c.as_slice-cells.ensures.value c.as_mut_slice.ensures.value (omega arith) se be c.settle.ensures.leads;
     }

@@ -22,7 +22,7 @@ returns-in-Solved g c =
 pub returns-in-False : goal.returns-in-False
 returns-in-False g c =
     let b = c.args.self.now in let few = b.few in let ok = b.cells.ok.0 in
-    let kind = g.S.Signature.kind c.args.signature.now in let back = links_of c.take-back.new.self in
+    let kind = g.S.Signature.kind c.args.signature.now in let back = links_of c.take_back.new.self in
     record {
       some = search rules;
       cells = search rules;
@@ -36,7 +36,7 @@ returns-in-False g c =
 pub returns-in-Wrong : goal.returns-in-Wrong
 returns-in-Wrong g c =
     let b = c.args.self.now in let few = b.few in let ok = b.cells.ok.0 in
-    let kind = g.S.Signature.kind c.args.signature.now in let back = links_of c.take-back-in-Wrong.new.self in
+    let kind = g.S.Signature.kind c.args.signature.now in let back = links_of c.take_back-in-Wrong.new.self in
     record {
       some = search rules;
       cells = search rules;

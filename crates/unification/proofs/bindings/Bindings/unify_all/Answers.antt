@@ -1,5 +1,4 @@
 use Rattle.std.proofs.Common.{sym, subst, rules}
-use Rattle.unification.specs.declared.Outcome.TheVariants.{False, Wrong}
 use Rattle.unification.specs.State.{cells_of, links_of}
 use Rattle.unification.specs.Several.{UnifiedAll}
 use Rattle.unification.proofs.Several.{unified_false, unified_wrong}
@@ -8,7 +7,7 @@ use Rattle.unification.proofs.bindings.Bindings.unify_all.Goals as goal
 -- links that are taken back stand for nothing new
 pub returns-in-False : goal.returns-in-False
 returns-in-False g c =
-    let b = c.args.self.now in let kind = g.S.Signature.kind c.args.signature.now in let back = links_of c.take-back.new.self in
+    let b = c.args.self.now in let kind = g.S.Signature.kind c.args.signature.now in let back = links_of c.take_back.new.self in
     record {
       some = search rules;
       cells = search rules;
@@ -19,7 +18,7 @@ returns-in-False g c =
 
 pub returns-in-Wrong : goal.returns-in-Wrong
 returns-in-Wrong g c =
-    let b = c.args.self.now in let kind = g.S.Signature.kind c.args.signature.now in let back = links_of c.take-back-in-Wrong.new.self in
+    let b = c.args.self.now in let kind = g.S.Signature.kind c.args.signature.now in let back = links_of c.take_back-in-Wrong.new.self in
     record {
       some = search rules;
       cells = search rules;

@@ -1,12 +1,12 @@
-use Rattle.std.proofs.Common.{◌≡◌, ℕ, ◌≤◌, sym, refl, ap, ◌∙◌, arith}
+use Rattle.std.proofs.Common.{arith}
 use Rattle.graphs.specs.Links.{up_of}
-use Rattle.graphs.proofs.Walks.{walk-le}
+use Rattle.graphs.proofs.Walks.{walk_le}
 use Rattle.unification.proofs.Reading.{root_past}
 use Rattle.unification.proofs.bindings.reading.root.Goals as goal
 
 pub returns-then-node-links : goal.returns-then-node-links
 returns-then-node-links c =
-    let d = walk-le (up_of c.args.links.now) c.requires c.args.node c.args.node in let e = c.find.ensures.value in
+    let d = walk_le (up_of c.args.links.now) c.requires c.args.node c.args.node in let e = c.find.ensures.value in
     record { value = e; top = c.find.ensures.top; below = omega arith }
 
 pub returns-else-node-links : goal.returns-else-node-links

@@ -1,5 +1,5 @@
-use Rattle.std.proofs.Common.{◌≡◌, sym, refl, ap, ◌∙◌, subst, arith}
-use Rattle.unification.specs.Held.{held, count, room}
+use Rattle.std.proofs.Common.{arith}
+use Rattle.unification.specs.Held.{held}
 use Rattle.unification.proofs.Several.{stacked_more, stacked_end}
 use Rattle.unification.proofs.bindings.several.push_all.Goals as goal
 

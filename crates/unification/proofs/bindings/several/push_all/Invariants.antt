@@ -1,4 +1,4 @@
-use Rattle.std.proofs.Common.{◌≡◌, ℕ, ◌+◌, drop}
+use Rattle.std.proofs.Common.{◌≡◌, ◌+◌, drop}
 use Rattle.unification.specs.Held.{held, count, room}
 use Rattle.unification.specs.Several.{stacked}
 use Rattle.unification.proofs.bindings.several.push_all.Given as goal

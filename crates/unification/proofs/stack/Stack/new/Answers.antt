@@ -1,6 +1,5 @@
-use Rattle.std.proofs.Common.{◌≡◌, ◌+◌, ◌-◌, ◌<◌, ◌≤◌, sym, refl, ap, ◌∙◌, arith, rules}
-use Rattle.std.proofs.lemmas.Bool.{lt-ltb, le-ltb}
-use Rattle.unification.proofs.Stacks.{newest_none, newest_push, newest_pop, newest_zero}
+use Rattle.std.proofs.Common.{rules}
+use Rattle.unification.proofs.Stacks.{newest_none}
 use Rattle.unification.proofs.stack.Stack.new.Goals as goal
 
 pub returns : goal.returns

@@ -1,6 +1,5 @@
-use Rattle.std.proofs.Common.{◌≡◌, ◌+◌, ◌-◌, ◌<◌, ◌≤◌, sym, refl, ap, ◌∙◌, arith, rules}
-use Rattle.std.proofs.lemmas.Bool.{lt-ltb, le-ltb}
-use Rattle.unification.proofs.Stacks.{newest_none, newest_push, newest_pop, newest_zero, newest_top}
+use Rattle.std.proofs.Common.{arith}
+use Rattle.unification.proofs.Stacks.{newest_zero, newest_top}
 use Rattle.unification.proofs.stack.Stack.top.Goals as goal
 
 pub returns-then-self-eq0 : goal.returns-then-self-eq0

@@ -1,5 +1,6 @@
 // The standing equations, solved together.
-ghost use Rattle.std.specs.Prelude.{◌≡◌, ◌≤◌, [], length, take, None};
+ghost use Rattle.std.specs.Prelude.{◌≡◌, ◌≤◌, [], length, take, None, IfOk};
+ghost use Rattle.graphs.specs.Links.{roots};
 ghost use Rattle.std.specs.List.{flat_map};
 ghost use Rattle.resolution.specs.State.{standing_cells, standing_links, standing_trail};
 ghost use Rattle.store.specs.Entries.{cells_of, places_from};
@@ -47,7 +48,9 @@ fn load(search: &mut Search, table: &Table) -> [Equation; 16]
 
 impl Solver {
     // Nothing stands. All memory is taken here.
-    pub(crate) fn new(heap: Global) -> Result<Solver, AllocError> {
+    pub(crate) fn new(heap: Global) -> Result<Solver, AllocError>
+        ensures { IfOk result (λ s. (standing_cells s.search ≡ []) × (standing_links s.search ≡ roots 0 2624) × (standing_trail s.search ≡ [])) }
+    {
         let search = Search::new(heap)?;
         Ok(Solver { search })
     }

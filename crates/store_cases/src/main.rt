@@ -2,6 +2,9 @@
 // 1 false, 2 wrong; a mark tells its depth, an ending 0, a question the uses of a path and 100 and more without one, a reading its cells; a refusal is its number after `refused`.
 #![tactic(auto)]
 
+ghost use Rattle.std.specs.Prelude.{◌≡◌, IfOk, string_bytes};
+ghost use Rattle.store_cases.specs.Texts.{outcome_number, verdict_number, refused_text, ended_text, reply_text};
+
 use frames::Frame;
 use records::Records;
 use records::fact::Symbols;
@@ -16,7 +19,9 @@ use unification::{Outcome, Pair};
 use verdicts::Verdict;
 use verdicts::settings::Settings;
 
-fn variable(value: u32) -> Cell {
+fn variable(value: u32) -> Cell
+    ensures { result ≡ record { tag = 0; form = 0; arity = 0; value = value } }
+{
     Cell {
         tag: 0,
         form: 0,
@@ -25,7 +30,9 @@ fn variable(value: u32) -> Cell {
     }
 }
 
-fn constant(form: u8, value: u32) -> Cell {
+fn constant(form: u8, value: u32) -> Cell
+    ensures { result ≡ record { tag = 1; form = form; arity = 0; value = value } }
+{
     Cell {
         tag: 1,
         form,
@@ -34,7 +41,9 @@ fn constant(form: u8, value: u32) -> Cell {
     }
 }
 
-fn function(value: u32, arity: u8) -> Cell {
+fn function(value: u32, arity: u8) -> Cell
+    ensures { result ≡ record { tag = 2; form = 0; arity = arity; value = value } }
+{
     Cell {
         tag: 2,
         form: 0,
@@ -43,7 +52,9 @@ fn function(value: u32, arity: u8) -> Cell {
     }
 }
 
-fn outcome_code(o: Outcome) -> u32 {
+fn outcome_code(o: Outcome) -> u32
+    ensures { result ≡ outcome_number o }
+{
     match o {
         Outcome::Solved => 0,
         Outcome::False => 1,
@@ -51,7 +62,9 @@ fn outcome_code(o: Outcome) -> u32 {
     }
 }
 
-fn verdict_code(v: Verdict) -> u32 {
+fn verdict_code(v: Verdict) -> u32
+    ensures { result ≡ verdict_number v }
+{
     match v {
         Verdict::Holds(n) => n as u32,
         Verdict::Fails => 100,
@@ -60,19 +73,25 @@ fn verdict_code(v: Verdict) -> u32 {
     }
 }
 
-fn refused(heap: Global, e: Refusal) -> Result<String, AllocError> {
+fn refused(heap: Global, e: Refusal) -> Result<String, AllocError>
+    ensures { IfOk result (λ s. string_bytes s ≡ refused_text e) }
+{
     let number = e.number();
     format!(in heap; "refused {number}")
 }
 
-fn ended(heap: Global, r: Option<Refusal>) -> Result<String, AllocError> {
+fn ended(heap: Global, r: Option<Refusal>) -> Result<String, AllocError>
+    ensures { IfOk result (λ s. string_bytes s ≡ ended_text r) }
+{
     match r {
         None => format!(in heap; "ended 0"),
         Some(e) => refused(heap, e),
     }
 }
 
-fn shown(heap: Global, reply: Reply) -> Result<String, AllocError> {
+fn shown(heap: Global, reply: Reply) -> Result<String, AllocError>
+    ensures { IfOk result (λ s. string_bytes s ≡ reply_text reply) }
+{
     match reply {
         Reply::OfEnter(Ok(o)) => {
             let n = outcome_code(o);

@@ -1,12 +1,10 @@
 -- A clause that was read, and what the book makes of it.
-use Rattle.std.proofs.Common.{◌≡◌, ℕ, true, false, List, ◌++◌, length, Ok, vec_items, sym, ap, ◌∙◌, subst, arith}
+use Rattle.std.proofs.Common.{◌≡◌, ℕ, true, false, List, ◌++◌, length, Ok, vec_items, All, sym, ap, ◌∙◌, subst}
 use Rattle.std.specs.List.{insert}
-use Rattle.std.proofs.lemmas.List.Elements.{All-from_get_or}
 use Rattle.terms.specs.declared.Cell.{Cell}
 use Rattle.lexis.specs.Tokens.{start_at}
 use Rattle.lexis.specs.declared.fault.Fault.{Fault}
 use Rattle.lexis.specs.declared.fault.Cause.TheVariants.{Full}
-use Rattle.book.specs.declared.Row.{Row}
 use Rattle.book.specs.declared.Book.{Book}
 use Rattle.book.specs.Fit.{Inside}
 use Rattle.draft.specs.Sketch.{Sketch, ReadsClause}
@@ -18,9 +16,6 @@ use Rattle.book.specs.Listing.{listed_more}
 room_same : (b : Book) (cells more : List Cell) (words others : List (List ℕ)) → cells ≡ more → words ≡ others → has_room b (length cells) words ≡ has_room b (length more) others
 room_same b cells more words others e k = ap (λ cs. has_room b (length cs) words) e ∙ ap (λ ws. has_room b (length more) ws) k
 
-row₀ : Row
-row₀ = record { symbol = 0; arity = 0; from = 0; len = 0 }
-
 admitted_clauses : (b a : Book) (clause : List Cell) (words : List (List ℕ)) → Admitted b a clause words → (p n : ℕ) → open_clauses a p n ≡ open_clauses b p n ++ listed_with clause p n
 admitted_clauses b a clause words h p n =
     let k = b.cells.ok.0 in
@@ -28,7 +23,7 @@ admitted_clauses b a clause words h p n =
     ap (λ rs. listed rs (vec_items a.cells) p n) (h.rows ∙ ap (λ m. insert (vec_items b.rows) h.place (row_of m clause)) k)
     ∙ (ap (λ cs. listed (insert (vec_items b.rows) h.place (row_of (length (vec_items b.cells)) clause)) cs p n) h.cells
     ∙ listed_more (vec_items b.cells) clause (vec_items b.rows) h.place p n
-    (All-from_get_or (Inside (length (vec_items b.cells))) (vec_items b.rows) row₀ (λ i l. let w = b.inside i row₀ (omega arith) in (w.0, w.1, omega (arith, w.2)))) h.after_others)
+    (subst (λ (m : ℕ). All (Inside m) (vec_items b.rows)) k b.inside) h.after_others)
 
 pub accepted_from : (b a : Book) (text : List ℕ) (at end : ℕ) (s : Sketch) (cells : List Cell) (words : List (List ℕ)) → ReadsClause text at (Ok (end, s))
     → cells ≡ cells_from text b.names s → words ≡ names_from text b.names s → has_room b (length cells) words ≡ true → Admitted b a cells words → Accepted b a text at end

@@ -1,7 +1,9 @@
 -- A clause that was read is a clause of its row's predicate.
-use Rattle.std.specs.Prelude.{◌≡◌, ℕ, suc, ◌+◌, ◌-◌, ◌<◌, ◌≤◌, true, not, ◌||◌, List, [], ◌∷◌, ◌++◌, length, Some, None, vec_items, All, Option, ◌==◌, nat_le, nat_lt, slice_index_or, refl}
+use Rattle.std.specs.Prelude.{◌≡◌, ℕ, suc, ◌+◌, ◌-◌, ◌<◌, ◌≤◌, true, not, ◌||◌, List, [], ◌∷◌, ◌++◌, length, Some, None, vec_items, All, Option, ◌==◌, nat_le, nat_lt, refl}
 use Rattle.std.proofs.Common.{arith, sym, ap, subst, ◌∙◌, inl, inr}
 use Rattle.std.specs.List.{insert}
+use Rattle.std.proofs.lemmas.List.{length-append}
+use Rattle.std.proofs.lemmas.List.Elements.{All-from_get_or, All-get_or, All-weaker}
 use Rattle.std.proofs.lemmas.Bool.{and_parts, and_from, or_cases, or_left, or_right, cases_Bool, not-true, not_from_false, eqb-true, eq-eqb, both_ways, leb-true, le-leb, ltb-true, lt-ltb}
 use Rattle.terms.specs.declared.Cell.{Cell}
 use Rattle.terms.specs.Shape.{goals}
@@ -19,7 +21,7 @@ use Rattle.book.specs.Fit.{Inside, clause_goals, in_order, is_clause, Right}
 use Rattle.book.specs.Meaning.{row_of}
 use Rattle.book.specs.Reading.{cells_from, Asked}
 use Rattle.book.specs.Listing.{clause_stays, clause_added}
-use Rattle.book.specs.Rows.{each_inserted}
+use Rattle.book.specs.Rows.{no_row, all_inserted}
 
 -- the test of the order tells the order
 order_told : (n : ℕ) (cs : List Cell) → in_order n cs ≡ true → InOrder n cs
@@ -79,22 +81,43 @@ clause_tested cs p =
     (and_from (in_order 0 cs) _ (order_tested 0 cs p.in_order)
     (and_from ((head_of cs).value == (head_of cs).value) _ (eq-eqb (head_of cs).value (head_of cs).value refl) (eq-eqb (head_of cs).arity (head_of cs).arity refl)))
 
+-- a clause that was read is not empty
+pub spelled_some : (cs : List Cell) → Spelled 1 cs → 0 < length cs
+spelled_some [] p = let n : 0 ≡ 1 + p.count = cc p.goal_list in absurd (omega arith)
+spelled_some (c ∷ cs) p = omega arith
+
+-- the cells of a draft are those of symbols with few arguments
+pub draft_slim : (d : Draft) → All Slim (vec_items d.cells)
+draft_slim d = let n = d.cells.ok.0 in All-from_get_or Slim (vec_items d.cells) (record { tag = 0; form = 0; arity = 0; value = 0 }) (λ i h. d.slim i _ (omega arith))
+
 -- a row is as it was with more cells after the others
 right_stays : (cells more : List Cell) (r : Row) → Inside (length cells) r → Right cells r → Right (cells ++ more) r
-right_stays cells more r h w = ap (is_clause r.symbol r.arity) (clause_stays cells more r h) ∙ w
+right_stays cells more r h w = ap (is_clause r.predicate.symbol r.predicate.arity) (clause_stays cells more r h) ∙ w
 
 -- the new row
 right_added : (cells clause : List Cell) → Spelled 1 clause → Right (cells ++ clause) (row_of (length cells) clause)
 right_added cells clause p = ap (is_clause (head_of clause).value (head_of clause).arity) (clause_added cells clause) ∙ clause_tested clause p
 
--- the rows with the new one
-pub right_all : (old clause cells : List Cell) (rows rows' : List Row) (at n m from : ℕ) → cells ≡ old ++ clause → rows' ≡ insert rows at (row_of from clause) → at ≤ length rows → from ≡ length old → n ≡ length rows
-    → m ≡ length rows' → ((k : ℕ) (d : Row) → k < n → Inside (length old) (slice_index_or rows k d)) → ((k : ℕ) (d : Row) → k < n → Right old (slice_index_or rows k d)) → Spelled 1 clause
-    → (k : ℕ) (d : Row) → k < m → Right cells (slice_index_or rows' k d)
-right_all old clause cells rows rows' at n m from ec er ea ef en em inside right p =
-    each_inserted (Right cells) rows rows' at (row_of from clause) n m er ea en em
-    (λ k d h. subst (λ cs. Right cs (slice_index_or rows k d)) (sym ec) (right_stays old clause (slice_index_or rows k d) (inside k d h) (right k d h)))
-    (subst (λ cs. Right cs (row_of from clause)) (sym ec) (subst (λ f. Right (old ++ clause) (row_of f clause)) (sym ef) (right_added old clause p)))
+-- what holds of the rows holds of them with a new one and its cells
+inside_more : (n m : ℕ) (r : Row) → n ≤ m → Inside n r → Inside m r
+inside_more n m r h w = (w.0, w.1, let l = w.2 in omega arith)
+
+pub inside_all : (cells clause : List Cell) (rows : List Row) (at : ℕ) → All (Inside (length cells)) rows → Spelled 1 clause → All (Inside (length (cells ++ clause))) (insert rows at (row_of (length cells) clause))
+inside_all cells clause rows at inside p =
+    let l = length-append cells clause in
+    all_inserted (Inside (length (cells ++ clause))) rows at (row_of (length cells) clause)
+    (All-weaker (Inside (length cells)) (Inside (length (cells ++ clause))) (λ r w. inside_more (length cells) (length (cells ++ clause)) r (omega arith) w) rows inside)
+    (spelled_some clause p, p.few, omega arith)
+
+both_hold : (P Q : Row → Type 0) (rows : List Row) → All P rows → All Q rows → All (λ r. P r × Q r) rows
+both_hold P Q rows a b = All-from_get_or (λ r. P r × Q r) rows no_row (λ i h. (All-get_or P rows i no_row h a, All-get_or Q rows i no_row h b))
+
+pub right_all : (cells clause : List Cell) (rows : List Row) (at : ℕ) → All (Inside (length cells)) rows → All (Right cells) rows → Spelled 1 clause
+    → All (Right (cells ++ clause)) (insert rows at (row_of (length cells) clause))
+right_all cells clause rows at inside right p =
+    all_inserted (Right (cells ++ clause)) rows at (row_of (length cells) clause)
+    (All-weaker (λ r. Inside (length cells) r × Right cells r) (Right (cells ++ clause)) (λ r w. right_stays cells clause r w.0 w.1) rows (both_hold (Inside (length cells)) (Right cells) rows inside right))
+    (right_added cells clause p)
 
 -- a book has few names, so their numbers are small
 pub spelled_from : (h : ℕ) (text : List ℕ) (names : Names) (s : Sketch) → Spelled h s.cells → Spelled h (cells_from text names s)

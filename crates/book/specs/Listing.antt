@@ -1,12 +1,12 @@
 -- One clause more in a book.
-use Rattle.std.specs.Prelude.{◌≡◌, ℕ, ◌+◌, Bool, true, false, cond, List, [], ◌∷◌, ◌++◌, map, length, take, drop, All, filter, refl}
+use Rattle.std.specs.Prelude.{◌≡◌, ℕ, Bool, true, false, cond, List, [], ◌∷◌, ◌++◌, map, length, take, drop, All, filter, refl}
 use Rattle.std.proofs.Common.{arith, ap, ◌∙◌}
 use Rattle.std.specs.List.{insert}
 use Rattle.std.proofs.lemmas.List.Elements.{All-filter, All-head, All-tail}
 use Rattle.std.proofs.lemmas.List.{map-append, drop-append-le, take-append-le, drop_at, take_all, length-drop}
 use Rattle.terms.specs.declared.Cell.{Cell}
 use Rattle.book.specs.declared.Row.{Row}
-use Rattle.book.specs.Fit.{Inside, clause_of, row_key, Parted}
+use Rattle.book.specs.Fit.{Inside, clause_of, up_to, Parted}
 use Rattle.book.specs.Meaning.{is_for, listed, row_of, listed_with}
 use Rattle.book.specs.Rows.{kept_row}
 
@@ -28,7 +28,7 @@ last_listed : (b : Bool) (cells clause : List Cell) → map (clause_of (cells ++
 last_listed true cells clause = ap (λ c. c ∷ []) (clause_added cells clause)
 last_listed false cells clause = refl
 
-pub listed_more : (cells clause : List Cell) (rows : List Row) (at p n : ℕ) → All (Inside (length cells)) rows → Parted rows (row_key (row_of 0 clause) + 1) at
+pub listed_more : (cells clause : List Cell) (rows : List Row) (at p n : ℕ) → All (Inside (length cells)) rows → Parted rows (λ q. up_to q (row_of 0 clause).predicate) at
     → listed (insert rows at (row_of (length cells) clause)) (cells ++ clause) p n ≡ listed rows cells p n ++ listed_with clause p n
 listed_more cells clause rows at p n h w =
     let f = is_for p n in

@@ -1,67 +1,58 @@
 // The open book: clauses are read into it.
-ghost use Rattle.std.specs.Prelude.{◌≡◌, ℕ, ◌+◌, ◌-◌, ◌<◌, ◌≤◌, Bool, true, false, ◌&&◌, List, [], ◌∷◌, ◌++◌, length, IfOk, vec_len, vec_capacity, MatchResult, slice_index_or};
-ghost use Rattle.clauses.specs.Clauses.{Low, Slim};
+ghost use Rattle.std.specs.Prelude.{◌≡◌, ℕ, ◌+◌, ◌<◌, ◌≤◌, true, false, ◌&&◌, [], ◌++◌, length, IfOk, vec_len, MatchResult, nat_le, nat_lt};
 ghost use Rattle.lexis.specs.declared.fault.Cause.TheVariants.{Full};
-ghost use Rattle.terms.specs.declared.Cell.{Cell as CellOf};
 ghost use Rattle.names.specs.Spans.{words_in};
-ghost use Rattle.names.specs.Words.{names_of, names_fit};
+ghost use Rattle.names.specs.Words.{names_of};
 ghost use Rattle.draft.specs.Spelled.{Spelled};
 ghost use Rattle.book.specs.Meaning.{open_clauses, book_clauses, Taken, Admitted, has_room};
 ghost use Rattle.book.specs.Reading.{Accepted, Refused};
 
-use crate::order::{key, lower_bound};
 use crate::{Book, Row, SealedBook};
+use clauses::Predicate;
 use draft::Draft;
 use lexis::fault::{Cause, Fault};
-use names::{Names, Span};
+use names::Names;
 use std::alloc::{AllocError, Global};
-use terms::Cell;
+
+// A book has at most so many clauses, of so many cells together.
+const MOST_CLAUSES: usize = 256;
+
+const MOST_CELLS: usize = 2048;
 
 impl Book {
     // Memory is taken here and nowhere later.
     pub fn new(heap: Global) -> Result<Book, AllocError>
         ensures { IfOk result (λ b. (b.rows.items ≡ []) × (b.cells.items ≡ []) × (names_of b.names ≡ [])) }
     {
-        let names = Names::new(heap)?;
-        let cells = Vec::with_capacity(heap, 2048)?;
-        let rows = Vec::with_capacity(heap, 256)?;
-        Ok(Book { names, cells, rows })
+        Ok(Book {
+            names: Names::new(heap)?,
+            cells: Vec::with_capacity(heap, MOST_CELLS)?,
+            rows: Vec::with_capacity(heap, MOST_CLAUSES)?,
+        })
     }
 
-    // Whether there is room for one clause more, of so many cells, with the new words of a text.
-    fn has_room(&self, cells: usize, text: &[u8], fresh: &[Span]) -> bool
-        requires { cells ≤ 32 }
-        ensures value { result ≡ has_room self.now cells (names_of self.now.names ++ words_in text.now fresh.now) }
-        ensures room { result ≡ true → (vec_len self.now.rows < 256) × (vec_len self.now.cells + cells ≤ 2048) }
-        ensures names { result ≡ true → names_fit (names_of self.now.names ++ words_in text.now fresh.now) ≡ true }
+    // Whether there is room for one clause more, of so many cells.
+    fn has_room(&self, cells: usize) -> bool
+        ensures { result ≡ (nat_lt (length self.now.rows.items) 256 && nat_le (length self.now.cells.items + cells) 2048) }
     {
-        self.rows.len() < 256
-            && self.cells.len() + cells <= 2048
-            && self.names.have_room(text, fresh)
+        self.rows.len() < MOST_CLAUSES && cells <= MOST_CELLS - self.cells.len()
     }
 
-    // One clause more, for which there is room. Its row comes after the others of its predicate.
-    fn add(&mut self, clause: &[Cell])
-        requires some { 0 < length clause.now }
-        requires few { length clause.now ≤ 32 }
-        requires low { (k : ℕ) (d : CellOf) → k < length clause.now → Low (slice_index_or clause.now k d) }
-        requires slim { (k : ℕ) (d : CellOf) → k < length clause.now → Slim (slice_index_or clause.now k d) }
-        requires spelled { Spelled 1 clause.now }
-        requires rows { vec_len self.old.rows < 256 }
-        requires cells { vec_len self.old.cells + length clause.now ≤ 2048 }
-        ensures { Taken self.old self.new clause.now }
+    // The draft's clause, for which there is room. Its row comes after the others of its predicate.
+    fn add(&mut self, draft: &Draft)
+        requires spelled { Spelled 1 draft.now.cells.items }
+        requires room { (vec_len self.old.rows < 256) × (vec_len self.old.cells + length draft.now.cells.items ≤ 2048) }
+        ensures { Taken self.old self.new draft.now.cells.items }
     {
-        let from = self.cells.len();
-        let head = clause[0];
+        let clause = draft.cells();
+        let row = Row {
+            predicate: Predicate::of(clause[0]),
+            from: self.cells.len(),
+            len: clause.len(),
+        };
+        let at = self.end_of(row.predicate);
         let Ok(()) = self.cells.extend_from_slice(clause) else {
             unreachable()
-        };
-        let at = lower_bound(self.rows.as_slice(), key(head.value, head.arity) + 1);
-        let row = Row {
-            symbol: head.value,
-            arity: head.arity,
-            from,
-            len: clause.len(),
         };
         let Ok(()) = self.rows.insert(at, row) else {
             unreachable()
@@ -70,18 +61,15 @@ impl Book {
 
     // Takes the draft's clause in, with its new names, or tells that the book is full and is as it was.
     fn admit(&mut self, draft: &Draft, text: &[u8]) -> Result<(), Fault>
-        requires some { 0 < length draft.now.cells.items }
-        requires spelled { Spelled 1 draft.now.cells.items }
+        requires { Spelled 1 draft.now.cells.items }
         ensures { MatchResult result (λ _. (has_room self.old (length draft.now.cells.items) (names_of self.old.names ++ words_in text.now draft.now.fresh.items) ≡ true) × Admitted self.old self.new draft.now.cells.items (names_of self.old.names ++ words_in text.now draft.now.fresh.items)) (λ e. (has_room self.old (length draft.now.cells.items) (names_of self.old.names ++ words_in text.now draft.now.fresh.items) ≡ false) × (e ≡ record { cause = Full; at = draft.now.start }) × (self.new ≡ self.old)) }
     {
-        if !self.has_room(draft.cells().len(), text, draft.fresh()) {
-            return Err(Fault {
-                cause: Cause::Full,
-                at: draft.start(),
-            });
+        let full = Cause::Full.at(draft.start());
+        if !self.has_room(draft.cells().len()) {
+            return Err(full);
         }
-        self.add(draft.cells());
-        let _ = self.names.take_in(text, draft.fresh());
+        self.names.take_in(text, draft.fresh()).map_err(|_| full)?;
+        self.add(draft);
         Ok(())
     }
 
@@ -99,9 +87,8 @@ impl Book {
     // No further clause: the book becomes a source.
     pub fn seal(self) -> SealedBook
         ensures clauses { (p n : ℕ) → book_clauses result p n ≡ open_clauses self p n }
-        ensures names { names_of result.names ≡ names_of self.names }
+        ensures names { names_of result.book.names ≡ names_of self.names }
     {
-        let Book { names, cells, rows } = self;
-        SealedBook { names, cells, rows }
+        SealedBook { book: self }
     }
 }

@@ -1,32 +1,44 @@
 // Rows in the order of their predicates, so that those of one predicate are found without a look at the others.
-ghost use Rattle.std.specs.Prelude.{◌≡◌, ◌<◌, length};
-ghost use Rattle.book.specs.Fit.{key_of, Rising, Parted};
+ghost use Rattle.std.specs.Prelude.{◌≡◌, filter};
+ghost use Rattle.book.specs.Fit.{before, up_to, Parted, From};
+ghost use Rattle.book.specs.Meaning.{is_for};
 
-use crate::Row;
+use crate::{Book, Row};
+use clauses::Predicate;
 
-// A predicate as one number.
-pub(crate) fn key(symbol: u32, arity: u8) -> u64
-    ensures value { result ≡ key_of symbol arity }
-    ensures small { result < 1099511627776 }
-{
-    symbol as u64 * 256 + arity as u64
-}
-
-// How many rows have keys below the number. They come first, so the place is found by halving.
-pub(crate) fn lower_bound(rows: &[Row], limit: u64) -> usize
-    requires { Rising rows.now (length rows.now) }
-    ensures { Parted rows.now limit result }
-{
-    let mut low: usize = 0;
-    let mut high: usize = rows.len();
-    while low < high {
-        let middle = low + (high - low) / 2;
-        let row = rows[middle];
-        if key(row.symbol, row.arity) < limit {
-            low = middle + 1;
-        } else {
-            high = middle;
-        }
+impl Book {
+    // The place of the predicate's first row: those of lower predicates come before it.
+    pub(crate) fn start_of(&self, predicate: Predicate) -> usize
+        ensures { Parted self.now.rows.items (λ q. before q predicate) result }
+    {
+        self.rows
+            .as_slice()
+            .partition_point(|row| row.predicate < predicate)
     }
-    low
+
+    // The place after the predicate's last row.
+    pub(crate) fn end_of(&self, predicate: Predicate) -> usize
+        ensures { Parted self.now.rows.items (λ q. up_to q predicate) result }
+    {
+        self.rows
+            .as_slice()
+            .partition_point(|row| row.predicate <= predicate)
+    }
+
+    // The rows from the predicate's first on.
+    pub(crate) fn rows_from(&self, predicate: Predicate) -> &[Row]
+        ensures { From self.now.rows.items predicate result.now }
+    {
+        let first = self.start_of(predicate);
+        &self.rows.as_slice()[first..]
+    }
+
+    // The rows of a predicate.
+    pub(crate) fn rows_of(&self, predicate: Predicate) -> &[Row]
+        ensures { result.now ≡ filter (is_for predicate.symbol predicate.arity) self.now.rows.items }
+    {
+        let first = self.start_of(predicate);
+        let end = self.end_of(predicate);
+        &self.rows.as_slice()[first..end]
+    }
 }

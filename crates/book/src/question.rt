@@ -15,19 +15,16 @@ pub fn question_at(text: &[u8], at: usize) -> Result<Option<usize>, Fault>
     ensures { result ≡ query_at (token_at text.now at) }
 {
     let token = next_token(text, at)?;
-    match token.kind {
-        Kind::Query => Ok(Some(token.start)),
-        _ => Ok(None),
-    }
+    Ok(matches!(token.kind, Kind::Query).then_some(token.start))
 }
 
 impl SealedBook {
     // Reads the question, which ends the text, into the draft. A name that the book does not have takes the next number after the book's.
     pub fn question(&self, draft: &mut Draft, text: &[u8], at: usize) -> Result<(), Fault>
-        ensures { MatchResult result (λ _. Asked self.now.names text.now at draft.new) (λ e. QuestionRefused text.now at e) }
+        ensures { MatchResult result (λ _. Asked self.now.book.names text.now at draft.new) (λ e. QuestionRefused text.now at e) }
     {
         draft.question(text, at)?;
-        draft.number(&self.names, text);
+        draft.number(&self.book.names, text);
         Ok(())
     }
 }

@@ -3,25 +3,20 @@ ghost use Rattle.std.specs.Prelude.{◌≤◌, length, MatchOption};
 ghost use Rattle.book.specs.Meaning.{book_clauses, Found};
 ghost use Rattle.book.specs.Books.{books_short, books_formed};
 
-use crate::order::{key, lower_bound};
 use crate::{Row, SealedBook};
-use clauses::{ProgramSource, Refusal, Source, rename};
+use clauses::{Predicate, ProgramSource, Refusal, Source, rename};
 use terms::Cell;
 
 impl SealedBook {
-    // The row of the clause with that number.
-    fn row(&self, symbol: u32, arity: u8, number: usize) -> Option<Row>
-        ensures { MatchOption result (length (book_clauses self.now symbol arity) ≤ number) (λ w. Found self.now symbol arity number w) }
+    // The row of the clause with that number. It is looked for once for each step of a search, so the end of its predicate's rows is not.
+    fn row(&self, predicate: Predicate, number: usize) -> Option<Row>
+        ensures { MatchOption result (length (book_clauses self.now predicate.symbol predicate.arity) ≤ number) (λ w. Found self.now.book predicate.symbol predicate.arity number w) }
     {
-        let rows = self.rows.as_slice();
-        let predicate = key(symbol, arity);
-        let first = lower_bound(rows, predicate);
-        let end = lower_bound(rows, predicate + 1);
-        if number < end - first {
-            Some(rows[first + number])
-        } else {
-            None
-        }
+        self.book
+            .rows_from(predicate)
+            .get(number)
+            .copied()
+            .filter(|row| row.predicate == predicate)
     }
 }
 
@@ -32,35 +27,21 @@ impl Source for SealedBook {
 
     ghost formed = { λ s p n k h. (books_formed s p n k h).formed };
 
-    fn count(&self, symbol: u32, arity: u8) -> usize {
-        let rows = self.rows.as_slice();
-        let predicate = key(symbol, arity);
-        lower_bound(rows, predicate + 1) - lower_bound(rows, predicate)
+    fn count(&self, predicate: Predicate) -> usize {
+        self.book.rows_of(predicate).len()
     }
 
     fn write(
         &self,
-        symbol: u32,
-        arity: u8,
+        predicate: Predicate,
         number: usize,
         base: u32,
         out: &mut [Cell],
         at: usize,
     ) -> Result<usize, Refusal> {
-        if base > 1056 {
-            return Err(Refusal::ClauseNumber);
-        }
-        let Some(row) = self.row(symbol, arity, number) else {
-            return Err(Refusal::ClauseNumber);
-        };
-        let n = row.len;
-        if at > out.len() || out.len() - at < n {
-            return Err(Refusal::OutputShort);
-        }
-        let from = row.from;
-        let cells = self.cells.as_slice();
-        rename::write_from(&cells[from..from + n], base, out, at);
-        Ok(n)
+        let row = self.row(predicate, number).ok_or(Refusal::ClauseNumber)?;
+        let cells = self.book.cells.as_slice();
+        rename::write(&cells[row.from..row.from + row.len], base, out, at)
     }
 }
 

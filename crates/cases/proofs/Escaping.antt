@@ -1,6 +1,6 @@
-use Rattle.std.proofs.Common.{◌≡◌, ℕ, zero, suc, ◌+◌, ◌-◌, ◌*◌, ◌<◌, ◌≤◌, false, eqb, leb, List, [], ◌∷◌, ◌++◌, length, get_or, drop, decimal, sym, refl, ap, ◌∙◌, append_assoc, append-nil, arith, drop-drop}
-use Rattle.std.proofs.lemmas.List.{drop_more, drop_all, get_or_past}
-use Rattle.std.proofs.lemmas.Bool.{ne_eqb, eq-eqb, le-leb, lt-leb, and_right, cond_both}
+use Rattle.std.proofs.Common.{◌≡◌, ℕ, zero, suc, ◌+◌, ◌-◌, ◌*◌, ◌<◌, ◌≤◌, min, inl, inr, false, eqb, leb, List, [], ◌∷◌, ◌++◌, length, get_or, drop, decimal, sym, refl, ap, ◌∙◌, append_assoc, append-nil, arith}
+use Rattle.std.proofs.lemmas.List.{drop_all, get_or_past}
+use Rattle.std.proofs.lemmas.Bool.{ne_eqb, eq-eqb, cases_lt, le-leb, lt-leb, and_right}
 use Rattle.cases.specs.Escapes.{hex_of, is_byte, escaped, escape_length, unescaped_after, unescaped}
 
 pub escaped_n : (r : ℕ) (t : List ℕ) → get_or t 1 0 ≡ 110 → escaped r t ≡ 10 ∷ []
@@ -58,7 +58,7 @@ after_drop r zero t = refl
 after_drop r (suc k) [] = refl
 after_drop r (suc k) (b ∷ bs) = after_drop r k bs
 
-plain_cons : (r b : ℕ) (bs : List ℕ) → (b ≡ 92 → ⊥) → unescaped r (b ∷ bs) ≡ b ∷ unescaped r bs
+pub plain_cons : (r b : ℕ) (bs : List ℕ) → (b ≡ 92 → ⊥) → unescaped r (b ∷ bs) ≡ b ∷ unescaped r bs
 unfolding unescaped
 plain_cons r b bs h = rw (ne_eqb b 92 h)
 
@@ -66,30 +66,25 @@ escape_cons : (r b : ℕ) (bs : List ℕ) → b ≡ 92 → unescaped r (b ∷ bs
 unfolding unescaped
 escape_cons r b bs h = rw (eq-eqb b 92 h) (ap (λ u. escaped r (b ∷ bs) ++ u) (after_drop r (escape_length (b ∷ bs) - 1) bs))
 
-pub plain_step : (r : ℕ) (t : List ℕ) (i : ℕ) → i < length t → (get_or t i 0 ≡ 92 → ⊥) → unescaped r (drop i t) ≡ (get_or t i 0 ∷ []) ++ unescaped r (drop (i + 1) t)
-plain_step r t i h n = ap (unescaped r) (drop_more t i 0 h) ∙ plain_cons r (get_or t i 0) (drop (i + 1) t) n
-
-pub escape_step : (r : ℕ) (t : List ℕ) (i n : ℕ) → i < length t → get_or t i 0 ≡ 92 → 2 ≤ n → n ≡ escape_length (drop i t) → unescaped r (drop i t) ≡ escaped r (drop i t) ++ unescaped r (drop (i + n) t)
-escape_step r t i n h e two l =
-    let d = drop_more t i 0 h in
-    let m : escape_length (get_or t i 0 ∷ drop (i + 1) t) ≡ n = sym (l ∙ ap escape_length d) in
-    let k : i + 1 + (n - 1) ≡ i + n = omega arith in
-    ap (unescaped r) d
-    ∙ (escape_cons r (get_or t i 0) (drop (i + 1) t) e
-    ∙ (ap (λ x. escaped r (get_or t i 0 ∷ drop (i + 1) t) ++ unescaped r (drop (x - 1) (drop (i + 1) t))) m
-    ∙ (ap (λ x. escaped r x ++ unescaped r (drop (n - 1) (drop (i + 1) t))) (sym d)
-    ∙ (ap (λ x. escaped r (drop i t) ++ unescaped r x) (drop-drop (n - 1) (i + 1) t)
-    ∙ ap (λ x. escaped r (drop i t) ++ unescaped r (drop x t)) k))))
+pub escape_step : (r b n : ℕ) (bs : List ℕ) → b ≡ 92 → 2 ≤ n → n ≡ escape_length (b ∷ bs) → unescaped r (b ∷ bs) ≡ escaped r (b ∷ bs) ++ unescaped r (drop n (b ∷ bs))
+escape_step r b n bs e two l =
+    let k : n ≡ suc (n - 1) = omega arith in
+    escape_cons r b bs e
+    ∙ (ap (λ x. escaped r (b ∷ bs) ++ unescaped r (drop (x - 1) bs)) (sym l)
+    ∙ ap (λ x. escaped r (b ∷ bs) ++ unescaped r (drop x (b ∷ bs))) (sym k))
 
 -- one step of a loop that adds to a list
 pub carried : (v w e u rest all : List ℕ) → w ≡ v ++ e → u ≡ e ++ rest → v ++ u ≡ all → w ++ rest ≡ all
 carried v w e u rest all a b h = ap (λ x. x ++ rest) a ∙ (append_assoc v e rest ∙ (ap (λ x. v ++ x) (sym b) ∙ h))
 
-pub length_le : (t : List ℕ) → escape_length t ≤ 4
-unfolding escape_length
-length_le t = cond_both (is_byte t) 4 2 (λ n. n ≤ 4) (λ h. omega arith) (λ h. omega arith)
+-- no more than all is dropped
+pub drop_min : (n : ℕ) (t : List ℕ) → drop (min n (length t)) t ≡ drop n t
+drop_min n t =
+    elim (cases_lt n (length t)) [
+      | inl l ↦ ap (λ k. drop k t) (omega arith)
+      | inr g ↦ drop_all (min n (length t)) t (omega arith) ∙ sym (drop_all n t (omega arith))
+    ]
 
--- the end of that loop
-pub ended : (r : ℕ) (t : List ℕ) (i : ℕ) (v all : List ℕ) → length t ≤ i → v ++ unescaped r (drop i t) ≡ all → v ≡ all
-unfolding unescaped
-ended r t i v all h e = sym (append-nil v) ∙ (ap (λ x. v ++ unescaped r x) (sym (drop_all i t h)) ∙ e)
+pub no_first : (t : List ℕ) → length t ≡ 0 → t ≡ []
+no_first [] e = refl
+no_first (b ∷ bs) e = absurd (omega arith)

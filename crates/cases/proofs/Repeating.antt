@@ -1,10 +1,10 @@
-use Rattle.std.proofs.Common.{◌≡◌, ℕ, zero, suc, ◌+◌, ◌-◌, ◌*◌, ◌^◌, ◌<◌, ◌≤◌, min, List, ◌++◌, length, get_or, take, drop, Some, None, sym, ap, ◌∙◌, append_assoc, append-nil, add-one, arith}
+use Rattle.std.proofs.Common.{◌≡◌, ℕ, zero, suc, ◌+◌, ◌-◌, ◌*◌, ◌^◌, ◌<◌, ◌≤◌, min, List, ◌++◌, length, get_or, take, drop, Some, None, sym, ap, ◌∙◌, append_assoc, append-nil, add-one, arith, length-drop}
 use lib.Bits.{bit_and}
 use Rattle.std.proofs.lemmas.List.{drop_more, drop_all}
 use Rattle.std.proofs.lemmas.Bool.{ne_eqb, eq-eqb}
 use Rattle.cases.specs.Escapes.{unescaped}
-use Rattle.cases.specs.Marks.{mark_from}
-use Rattle.cases.specs.Repeats.{times_of, body_of, rounds, repeated, decoded_from}
+use Rattle.cases.specs.Marks.{mark_in}
+use Rattle.cases.specs.Repeats.{times_of, body_of, rounds, repeated, decoded_in}
 
 pub times_stop : (t : List ℕ) (i n : ℕ) → i < length t → get_or t i 0 ≡ 58 → times_of n (drop i t) ≡ n
 times_stop t i n h e = ap (times_of n) (drop_more t i 0 h) ∙ rw (eq-eqb (get_or t i 0) 58 e)
@@ -31,17 +31,20 @@ pub rounds_all : (t : List ℕ) (from times n : ℕ) (v w : List ℕ) → drop f
 unfolding repeated
 rounds_all t from times n v w a b c e = e ∙ (ap (λ x. v ++ rounds x n) a ∙ ap (λ x. v ++ rounds (body_of t) x) (c ∙ b))
 
-pub decode_last : (k : ℕ) (t : List ℕ) (at : ℕ) → at ≤ length t → length t < at + k → mark_from t at 123 ≡ None → decoded_from k t at ≡ unescaped 0 (drop at t)
-decode_last zero t at l h e = absurd (omega arith)
-decode_last (suc k) t at l h e = rw e
+pub decode_last : (k : ℕ) (t : List ℕ) → length t < k → mark_in 123 0 t ≡ None → decoded_in k t ≡ unescaped 0 t
+decode_last zero t h e = absurd (omega arith)
+decode_last (suc k) t h e = rw e
 
-pub decode_open : (k : ℕ) (t : List ℕ) (at start : ℕ) → at ≤ length t → length t < at + k → mark_from t at 123 ≡ Some start → mark_from t (start + 2) 125 ≡ None → decoded_from k t at ≡ unescaped 0 (take (start - at) (drop at t))
-decode_open zero t at start l h e f = absurd (omega arith)
-decode_open (suc k) t at start l h e f = rw (e, f) (append-nil (unescaped 0 (take (start - at) (drop at t))))
+pub decode_open : (k : ℕ) (t : List ℕ) (start : ℕ) → length t < k → mark_in 123 0 t ≡ Some start → mark_in 125 0 (drop (start + 2) t) ≡ None
+    → decoded_in k t ≡ unescaped 0 (take start t)
+decode_open zero t start h e f = absurd (omega arith)
+decode_open (suc k) t start h e f = rw (e, f) (append-nil (unescaped 0 (take start t)))
 
-pub decode_more : (k : ℕ) (t : List ℕ) (at start end : ℕ) → at ≤ length t → length t < at + k → mark_from t at 123 ≡ Some start → mark_from t (start + 2) 125 ≡ Some end → at ≤ start → start + 2 ≤ end → (j : ℕ) × (length t < end + 2 + j) × (decoded_from k t at ≡ unescaped 0 (take (start - at) (drop at t)) ++ (repeated (take (end - (start + 2)) (drop (start + 2) t)) ++ decoded_from j t (end + 2)))
-decode_more zero t at start end l h e f g d = absurd (omega arith)
-decode_more (suc k) t at start end l h e f g d = (k, omega arith, rw (e, f))
+pub decode_more : (k : ℕ) (t : List ℕ) (start end : ℕ) → length t < k → mark_in 123 0 t ≡ Some start → mark_in 125 0 (drop (start + 2) t) ≡ Some end → start + 2 ≤ length t
+    → (j : ℕ) × (length (drop (end + 2) (drop (start + 2) t)) < j)
+    × (decoded_in k t ≡ unescaped 0 (take start t) ++ (repeated (take end (drop (start + 2) t)) ++ decoded_in j (drop (end + 2) (drop (start + 2) t))))
+decode_more zero t start end h e f b = absurd (omega arith)
+decode_more (suc k) t start end h e f b = (k, simp length-drop (omega arith), rw (e, f))
 
 -- two additions, one after the other
 pub carried_two : (v w x a b u rest all : List ℕ) → w ≡ v ++ a → x ≡ w ++ b → u ≡ a ++ (b ++ rest) → v ++ u ≡ all → x ++ rest ≡ all

@@ -1,6 +1,6 @@
 use Rattle.std.specs.Prelude.{ℕ, zero, suc, ◌+◌, ◌-◌, ◌*◌, ◌^◌, min, cond, List, [], ◌∷◌, ◌++◌, length, take, drop, Some, None, Option, ◌==◌, bit_and}
 use Rattle.cases.specs.Escapes.{unescaped}
-use Rattle.cases.specs.Marks.{mark_from}
+use Rattle.cases.specs.Marks.{mark_in}
 
 -- the number before the colon, at most the largest of 64 bits; n is that of the digits before
 abbrev pub times_of : ℕ → List ℕ → ℕ
@@ -26,14 +26,15 @@ abbrev pub at_mark : Option ℕ → List ℕ → (ℕ → List ℕ) → List ℕ
 at_mark None none some = none
 at_mark (Some p) none some = some p
 
--- what a case stands for from a place on: repeats lie between `\{` and `\}`, and a repeat that is not closed ends the text; there are fewer than k
-abbrev pub decoded_from : ℕ → List ℕ → ℕ → List ℕ
-decoded_from zero text at = []
-decoded_from (suc k) text at =
-    at_mark (mark_from text at 123) (unescaped 0 (drop at text))
-    (λ start. unescaped 0 (take (start - at) (drop at text))
-    ++ at_mark (mark_from text (start + 2) 125) [] (λ end. repeated (take (end - (start + 2)) (drop (start + 2) text)) ++ decoded_from k text (end + 2)))
+-- what a case stands for: repeats lie between `\{` and `\}`, and a repeat that is not closed ends the text; there are fewer than k
+abbrev pub decoded_in : ℕ → List ℕ → List ℕ
+decoded_in zero text = []
+decoded_in (suc k) text =
+    at_mark (mark_in 123 0 text) (unescaped 0 text)
+    (λ start. unescaped 0 (take start text)
+    ++ at_mark (mark_in 125 0 (drop (start + 2) text)) []
+    (λ end. repeated (take end (drop (start + 2) text)) ++ decoded_in k (drop (end + 2) (drop (start + 2) text))))
 
 -- the text of a case
 unfoldable pub decoded : List ℕ → List ℕ
-decoded text = decoded_from (suc (length text)) text 0
+decoded text = decoded_in (suc (length text)) text

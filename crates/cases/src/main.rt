@@ -4,14 +4,15 @@
 
 ghost use Rattle.std.specs.Prelude.{◌≡◌, ℕ, ◌+◌, ◌<◌, ◌≤◌, ◌++◌, length, drop, IfSome, IfOk, decimal, OnOk};
 ghost use Rattle.cases.specs.Escapes.{hex_of, escaped, escape_length, unescaped};
-ghost use Rattle.cases.specs.Marks.{mark_from};
+ghost use Rattle.cases.specs.Marks.{mark_in};
 ghost use Rattle.cases.specs.Repeats.{times_of, body_of, repeated, decoded};
 
 use line::line_for;
 use std::alloc::AllocError;
 use std::io::{BufRead, BufReader};
 
-// The value of a hexadecimal digit; 0 for any other byte.
+// The value of a hexadecimal digit; 0 for any other byte, capitals too, so it is not the library's. The other test program has the same six lines: a
+// library for them would be longer.
 fn hex(digit: u8) -> u8
     ensures value { result ≡ hex_of digit }
     ensures bound { result < 16 }
@@ -23,21 +24,29 @@ fn hex(digit: u8) -> u8
     }
 }
 
-// The place of the next backslash before a mark, from a place on.
-fn find_mark(text: &[u8], from: usize, mark: u8) -> Option<usize>
-    ensures value { result ≡ mark_from text.now from mark }
-    ensures bound { IfSome result (λ p. (from ≤ p) × (p + 2 ≤ length text.now)) }
+// What is left of a text after so many bytes.
+fn after(text: &[u8], n: usize) -> &[u8]
+    ensures { result.now ≡ drop n text.now }
 {
-    let mut at = from;
-    while at < text.len() && text.len() - at >= 2 {
-        if text[at] == b'\\' {
-            if text[at + 1] == mark {
-                return Some(at);
-            }
-            at += 2;
-        } else {
-            at += 1;
+    &text[n.min(text.len())..]
+}
+
+// The place of the first backslash before a mark; an escape of two bytes is passed over whole.
+fn find_mark(text: &[u8], mark: u8) -> Option<usize>
+    ensures value { result ≡ mark_in mark 0 text.now }
+    ensures bound { IfSome result (λ p. p + 2 ≤ length text.now) }
+{
+    let mut rest = text;
+    while let Some((first, tail)) = rest.split_first() {
+        if *first != b'\\' {
+            rest = tail;
+            continue;
         }
+        let (second, left) = tail.split_first()?;
+        if *second == mark {
+            return Some(text.len() - rest.len());
+        }
+        rest = left;
     }
     None
 }
@@ -71,24 +80,22 @@ fn escape(out: &mut Vec<u8>, text: &[u8], round: usize) -> Result<usize, AllocEr
 fn number(out: &mut Vec<u8>, n: usize) -> Result<(), AllocError>
     ensures { OnOk result (out.new.items ≡ out.old.items ++ decimal n) }
 {
-    if n >= 10 {
-        number(out, n / 10)?;
-    }
-    out.push((n % 10) as u8 + b'0')?;
-    Ok(())
+    let digits = n.to_string(*out.allocator())?;
+    out.extend_from_slice(digits.as_bytes())
 }
 
 // Adds a text without repeats.
 fn unescape(out: &mut Vec<u8>, text: &[u8], round: usize) -> Result<(), AllocError>
     ensures { OnOk result (out.new.items ≡ out.old.items ++ unescaped round text.now) }
 {
-    let mut at = 0;
-    while at < text.len() {
-        if text[at] == b'\\' {
-            at = at.saturating_add(escape(out, &text[at..], round)?);
+    let mut rest = text;
+    while let Some((first, tail)) = rest.split_first() {
+        if *first == b'\\' {
+            let n = escape(out, rest, round)?;
+            rest = after(rest, n);
         } else {
-            out.push(text[at])?;
-            at += 1;
+            out.push(*first)?;
+            rest = tail;
         }
     }
     Ok(())
@@ -125,17 +132,17 @@ fn repeat(out: &mut Vec<u8>, text: &[u8]) -> Result<(), AllocError>
 fn decode(out: &mut Vec<u8>, case: &[u8]) -> Result<(), AllocError>
     ensures { OnOk result (out.new.items ≡ out.old.items ++ decoded case.now) }
 {
-    let mut at = 0;
-    while let Some(start) = find_mark(case, at, b'{') {
-        unescape(out, &case[at..start], 0)?;
-        let body = start + 2;
-        let Some(end) = find_mark(case, body, b'}') else {
+    let mut rest = case;
+    while let Some(start) = find_mark(rest, b'{') {
+        unescape(out, &rest[..start], 0)?;
+        let opened = after(rest, start + 2);
+        let Some(end) = find_mark(opened, b'}') else {
             return Ok(());
         };
-        repeat(out, &case[body..end])?;
-        at = end + 2;
+        repeat(out, &opened[..end])?;
+        rest = after(opened, end + 2);
     }
-    unescape(out, &case[at..], 0)
+    unescape(out, rest, 0)
 }
 
 fn main(rt: HostRuntime) -> anyhow::Result<()> {

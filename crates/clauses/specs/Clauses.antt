@@ -57,6 +57,12 @@ pub record OfPredicate (symbol arity : ℕ) (cs : List Cell) : Type 0 where
 abbrev pub OfPredicates : (ℕ → ℕ → List (List Cell)) → Type 0
 OfPredicates lists = (p n k : ℕ) → k < length (lists p n) → OfPredicate p n (slice_index_or (lists p n) k [])
 
+-- what writing one clause answers, and what it leaves in the slice
+abbrev pub WroteClause : List Cell → (base at : ℕ) → (before after : List Cell) → Result ℕ Refusal → Type 0
+WroteClause cs base at before after (Ok n) = (base ≤ 1056) × (n ≡ length cs) × (at + n ≤ length before) × (after ≡ spliced before at (renamed base cs))
+WroteClause cs base at before after (Err ClauseNumber) = (1056 < base) × (after ≡ before)
+WroteClause cs base at before after (Err OutputShort) = (base ≤ 1056) × (length before < at + length cs) × (after ≡ before)
+
 -- what the call that writes a clause answers, and what it leaves in the slice
 abbrev pub Wrote : List (List Cell) → (number base at : ℕ) → (before after : List Cell) → Result ℕ Refusal → Type 0
 Wrote list number base at before after (Ok n) =

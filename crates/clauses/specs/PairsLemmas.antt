@@ -1,11 +1,11 @@
 -- Two lists as one.
-use Rattle.std.specs.Prelude.{◌≡◌, ℕ, ◌+◌, ◌-◌, ◌<◌, ◌≤◌, min, Bool, true, false, cond, List, [], ◌++◌, length, get_or, nat_le, nat_lt, slice_index_or, refl}
+use Rattle.std.specs.Prelude.{◌≡◌, ℕ, ◌+◌, ◌-◌, ◌<◌, ◌≤◌, min, Bool, true, false, cond, List, [], ◌++◌, length, get_or, Some, None, Option, nat_le, nat_lt, slice_index_or, refl}
 use Rattle.std.proofs.Common.{ap, ◌∙◌, sym, subst, inl, inr, arith}
 use Rattle.std.proofs.lemmas.List.{length-take, length-append, get_or-take, get_or_append_left, get_or-append_right}
 use Rattle.std.proofs.lemmas.Bool.{cases_lt, leb-true, leb-false, ltb-true, ltb-false}
 use Rattle.terms.specs.declared.Cell.{Cell}
 use Rattle.clauses.specs.declared.pair.Place.{Place}
-use Rattle.clauses.specs.declared.pair.Place.TheVariants.{First, Second, Nowhere}
+use Rattle.clauses.specs.declared.pair.Place.TheVariants.{First, Second}
 use Rattle.clauses.specs.Pairs.{joint, place_of, Placed}
 
 pub length_joint : {A : Type 0} (xs ys : List A) → length (joint xs ys) ≡ min 65535 (length xs + length ys)
@@ -32,10 +32,10 @@ joint_each P xs ys p q k h =
       | inr g ↦ subst P (sym (joint_right xs ys k [] (omega arith) g)) (q (k - length xs) (omega arith))
     ]
 
-pub placed_of : (xs ys : List (List Cell)) (n number : ℕ) (r : Place) → n ≡ length xs → r ≡ place_of n number → Placed xs ys number r
+pub placed_of : (xs ys : List (List Cell)) (n number : ℕ) (r : Option Place) → n ≡ length xs → r ≡ place_of n number → Placed xs ys number r
 placed_of xs ys n number r h e = subst (Placed xs ys number) (sym e) (step (nat_le 65535 number) refl (nat_lt number n) refl)
   where
-    step : (a : Bool) → nat_le 65535 number ≡ a → (b : Bool) → nat_lt number n ≡ b → Placed xs ys number (cond a Nowhere (cond b (First number) (Second (number - n))))
+    step : (a : Bool) → nat_le 65535 number ≡ a → (b : Bool) → nat_lt number n ≡ b → Placed xs ys number (cond a None (cond b (Some (First number)) (Some (Second (number - n)))))
     step true p b q = let l = length_joint xs ys in let g = leb-true 65535 number p in omega arith
     step false p true q =
         let l = length_joint xs ys in

@@ -11,10 +11,29 @@ pub mod pair;
 pub mod rename;
 
 // Why no clause was written. Number 16: the slice is too short from the place on. Number 17: no clause has that number, or the base is above 1,056.
-#[derive(Clone, Copy)]
+#[derive(Clone, Copy, Debug, PartialEq, Eq)]
 pub enum Refusal {
     OutputShort = 16,
     ClauseNumber = 17,
+}
+
+// What a list of clauses stands under: a symbol with so many arguments.
+#[derive(Clone, Copy, Debug, PartialEq, Eq, PartialOrd, Ord)]
+pub struct Predicate {
+    pub symbol: u32,
+    pub arity: u8,
+}
+
+impl Predicate {
+    // The predicate of a goal, by its first cell.
+    pub fn of(goal: Cell) -> Predicate
+        ensures { result ≡ record { symbol = goal.value; arity = goal.arity } }
+    {
+        Predicate {
+            symbol: goal.value,
+            arity: goal.arity,
+        }
+    }
 }
 
 // A source's meaning: for each predicate, which is a symbol and an arity, a list of clauses in order. A clause is its head and its body goals in cells.
@@ -22,20 +41,19 @@ pub trait Source {
     ghost clauses: { Self → ℕ → ℕ → List (List CellOf) };
 
     // How many clauses the predicate has.
-    fn count(&self, symbol: u32, arity: u8) -> usize
-        ensures { result ≡ length (clauses self.now symbol arity) };
+    fn count(&self, predicate: Predicate) -> usize
+        ensures { result ≡ length (clauses self.now predicate.symbol predicate.arity) };
 
     // Writes a clause, each variable raised by the base, into the slice from a place on, and tells how many cells that took.
     fn write(
         &self,
-        symbol: u32,
-        arity: u8,
+        predicate: Predicate,
         number: usize,
         base: u32,
         out: &mut [Cell],
         at: usize,
     ) -> Result<usize, Refusal>
-        ensures { Wrote (clauses self.now symbol arity) number base at out.old out.new result };
+        ensures { Wrote (clauses self.now predicate.symbol predicate.arity) number base at out.old out.new result };
 
     ghost short: { (s : Self) (p n : ℕ) → length (clauses s p n) ≤ 65535 };
 

@@ -4,8 +4,11 @@ ghost use Rattle.clauses.specs.Pairs.{joint, place_of, Placed};
 ghost use Rattle.clauses.specs.PairsLemmas.{joint_short, joint_each};
 ghost use Rattle.clauses.specs.Clauses.{Formed, OfPredicate};
 
-use crate::{ProgramSource, Refusal, Source};
+use crate::{Predicate, ProgramSource, Refusal, Source};
 use terms::Cell;
+
+// A list has at most so many clauses.
+const MOST: usize = 65535;
 
 #[derive(Drop)]
 pub struct Pair<A, B> {
@@ -14,11 +17,10 @@ pub struct Pair<A, B> {
 }
 
 // Which of the two has a clause, and under which number there.
-#[derive(Clone, Copy)]
+#[derive(Clone, Copy, Debug, PartialEq, Eq)]
 enum Place {
     First(usize),
     Second(usize),
-    Nowhere,
 }
 
 impl<A: Source, B: Source> Pair<A, B> {
@@ -29,31 +31,24 @@ impl<A: Source, B: Source> Pair<A, B> {
     }
 
     // Only the first is asked for its length: the second refuses a number that is not below its own.
-    fn place(&self, symbol: u32, arity: u8, number: usize) -> Place
-        ensures { Placed (A.Source.clauses self.now.first symbol arity) (B.Source.clauses self.now.second symbol arity) number result × (result ≡ place_of (length (A.Source.clauses self.now.first symbol arity)) number) }
+    fn place(&self, predicate: Predicate, number: usize) -> Option<Place>
+        ensures { Placed (A.Source.clauses self.now.first predicate.symbol predicate.arity) (B.Source.clauses self.now.second predicate.symbol predicate.arity) number result × (result ≡ place_of (length (A.Source.clauses self.now.first predicate.symbol predicate.arity)) number) }
     {
-        place_after(self.first.count(symbol, arity), number)
+        place_after(self.first.count(predicate), number)
     }
 }
 
-// Where the clause with a number stands, the first source having so many.
-fn place_after(count: usize, number: usize) -> Place
+// Where the clause with a number stands, the first source having so many; past the most that a list has, nowhere.
+fn place_after(count: usize, number: usize) -> Option<Place>
     ensures { result ≡ place_of count number }
 {
-    if number >= 65535 {
-        Place::Nowhere
+    if number >= MOST {
+        None
     } else if number < count {
-        Place::First(number)
+        Some(Place::First(number))
     } else {
-        Place::Second(number - count)
+        Some(Place::Second(number - count))
     }
-}
-
-// A list of so many, cut.
-fn cut(count: usize) -> usize
-    ensures { result ≡ min 65535 count }
-{
-    if count > 65535 { 65535 } else { count }
 }
 
 impl<A: Source, B: Source> Source for Pair<A, B> {
@@ -63,23 +58,21 @@ impl<A: Source, B: Source> Source for Pair<A, B> {
 
     ghost formed = { λ s p n. joint_each Formed (A.Source.clauses s.first p n) (B.Source.clauses s.second p n) (A.Source.formed s.first p n) (B.Source.formed s.second p n) };
 
-    fn count(&self, symbol: u32, arity: u8) -> usize {
-        cut(self.first.count(symbol, arity) + self.second.count(symbol, arity))
+    fn count(&self, predicate: Predicate) -> usize {
+        (self.first.count(predicate) + self.second.count(predicate)).min(MOST)
     }
 
     fn write(
         &self,
-        symbol: u32,
-        arity: u8,
+        predicate: Predicate,
         number: usize,
         base: u32,
         out: &mut [Cell],
         at: usize,
     ) -> Result<usize, Refusal> {
-        match self.place(symbol, arity, number) {
-            Place::First(k) => self.first.write(symbol, arity, k, base, out, at),
-            Place::Second(k) => self.second.write(symbol, arity, k, base, out, at),
-            Place::Nowhere => Err(Refusal::ClauseNumber),
+        match self.place(predicate, number).ok_or(Refusal::ClauseNumber)? {
+            Place::First(k) => self.first.write(predicate, k, base, out, at),
+            Place::Second(k) => self.second.write(predicate, k, base, out, at),
         }
     }
 }

@@ -11,6 +11,7 @@ use Rattle.draft.specs.declared.Bracket.{Bracket}
 use Rattle.draft.specs.Drafts.{const_cell, symbol_cell}
 use Rattle.draft.specs.Sketch.{Sketch, no_cell, with_arguments, opened, opened_at, opened_in, closed, necked}
 use Rattle.draft.proofs.States.{function, unstacked, Nested, Ended, Named, Waiting, Ordered, Sound, nested_weak, ended_weak, ordered_set}
+use Rattle.draft.proofs.Refusals.{never}
 
 -- a name is a term
 pub name_term : (h : ℕ) (s : Sketch) → Sound h NameEnd s → Sound h TermEnd s
@@ -41,9 +42,6 @@ waiting_opened h s n =
       spelled = ap (goals 0 0) back ∙ n.ended.spelled;
       nested = subst (λ cs. Nested cs p n.ended.stack) (sym back) n.ended.nested;
     }
-
-never : {A : Type 0} (e : Fault) (a : A) → ◌≡◌ {A = Result A Fault} (Err e) (Ok a) → ⊥
-never e a h = let z : ◌≡◌ {A = ℕ} 0 1 = cc in omega arith
 
 -- a bracket behind a name
 pub open_more : (h : ℕ) (s s' : Sketch) → Sound h NameEnd s → opened_in s ≡ Ok s' → Sound h Argument s'

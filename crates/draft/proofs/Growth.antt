@@ -11,12 +11,13 @@ use Rattle.lexis.specs.declared.token.Kind.{Kind}
 use Rattle.lexis.specs.declared.token.Kind.TheVariants.{Name, Variable, Integer, Float, Text, Open, Close, Comma, Dot, Neck, Query, End}
 use Rattle.draft.specs.declared.grammar.Due.{Due}
 use Rattle.draft.specs.declared.grammar.Due.TheVariants.{Head, Goal, GoalOrDot, Argument, NameEnd, TermEnd, Nothing}
-use Rattle.names.specs.declared.Span.{Span}
+use Rattle.lexis.specs.declared.token.Span.{Span}
 use Rattle.draft.specs.declared.reader.Form.{Form}
 use Rattle.draft.specs.Drafts.{makes_cell, cell_of, span_of}
 use Rattle.draft.specs.Grammar.{after, goal_begins}
 use Rattle.draft.specs.Sketch.{Sketch, argued, argued_by, one_more, innermost, counted_as, celled, full, with_cell, valued, added, opened, opened_in, entered, entered_as, too_many, failed, goes_on, sized_in, fitting, taken, Reads, no_cell, with_arguments}
 use Rattle.draft.specs.Sketch.Reads.{no_token, misfit, last, more}
+use Rattle.draft.proofs.Refusals.{never}
 
 argued_start : (s : Sketch) → (argued s).start ≡ s.start
 argued_start s =
@@ -74,9 +75,6 @@ Grown k s s' = (makes_cell k ≡ true → 0 < length s'.cells) × (length s.cell
 
 kept : (k : Kind) (s x s' : Sketch) → ◌≡◌ {A = Result Sketch Fault} (Ok x) (Ok s') → Grown k s x → Grown k s s'
 kept k s x s' e g = let p : x ≡ s' = cc in subst (Grown k s) p g
-
-never : {A : Type 0} (e : Fault) (a : A) → ◌≡◌ {A = Result A Fault} (Err e) (Ok a) → ⊥
-never e a h = let z : ◌≡◌ {A = ℕ} 0 1 = cc in omega arith
 
 no : false ≡ true → ⊥
 no h = let z : ◌≡◌ {A = ℕ} 0 1 = cc in omega arith

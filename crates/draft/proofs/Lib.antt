@@ -6,6 +6,7 @@ mod Order
 mod Places
 mod Pushing
 pub mod Readings
+mod Refusals
 mod Spelling
 mod States
 mod Steps

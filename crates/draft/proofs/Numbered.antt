@@ -2,15 +2,15 @@
 use Rattle.std.proofs.Common.{◌≡◌, ℕ, zero, suc, ◌+◌, ◌<◌, ◌≤◌, Bool, true, false, cond, ◌&&◌, ◌||◌, eqb, ltb, List, [], ◌∷◌, ◌++◌, length, Some, None, Option, sym, refl, ap, ◌∙◌, subst, inl, inr, arith}
 use Rattle.std.proofs.lemmas.List.{length_push}
 use Rattle.std.proofs.lemmas.Bool.{cond-true, cond_both, eqb-true, or_cases, and_parts, lt-ltb}
-use Rattle.std.specs.Str.{bytes_eq}
 use Rattle.terms.specs.declared.Cell.{Cell}
 use Rattle.terms.specs.Shape.{goals, term_cell, goal_cell}
 use Rattle.clauses.specs.Clauses.{vars_after, InOrder}
-use Rattle.names.specs.declared.Span.{Span}
+use Rattle.lexis.specs.declared.token.Span.{Span}
 use Rattle.names.specs.Places.{place_of, with_word}
 use Rattle.names.specs.Spans.{word_at}
 use Rattle.draft.specs.Numbering.{is_named, numbered, noted, numbered_all}
 use Rattle.draft.specs.Spelled.{Spelled}
+use Rattle.names.proofs.Finding.{place_within}
 use Rattle.draft.proofs.Order.{vars_none, low_order}
 
 -- a cell with another number
@@ -39,11 +39,6 @@ term_valued n c h =
 goal_valued : (n : ℕ) (c : Cell) → n < 65536 → goal_cell c ≡ true → goal_cell (valued n c) ≡ true
 goal_valued n c h = and_mono (eqb c.tag 2) _ _ (and_mono (eqb c.form 0) _ _ (and_mono (ltb c.arity 9) _ _ (λ e. lt-ltb n 65536 h)))
 
-place_most : (w : List ℕ) (ws : List (List ℕ)) → place_of w ws ≤ length ws
-unfolding place_of
-place_most w [] = omega arith
-place_most w (x ∷ xs) = cond_both (bytes_eq x w) 0 (suc (place_of w xs)) (λ n. n ≤ suc (length xs)) (λ e. omega arith) (λ e. let h = place_most w xs in omega arith)
-
 noted_most : (w : List ℕ) (ws : List (List ℕ)) (c : Cell) → length (noted w ws c) ≤ length ws + 1
 noted_most w ws c =
     cond_both (is_named c) (with_word w ws) ws (λ us. length us ≤ length ws + 1)
@@ -53,11 +48,11 @@ noted_most w ws c =
 -- the cell with its number fits where it fitted
 term_numbered : (w : List ℕ) (ws : List (List ℕ)) (c : Cell) → length ws < 65536 → term_cell c ≡ true → term_cell (numbered w ws c) ≡ true
 term_numbered w ws c h t =
-    cond_both (is_named c) (valued (place_of w ws) c) c (λ x. term_cell x ≡ true) (λ e. term_valued (place_of w ws) c (let p = place_most w ws in omega arith) t) (λ e. t)
+    cond_both (is_named c) (valued (place_of w ws) c) c (λ x. term_cell x ≡ true) (λ e. term_valued (place_of w ws) c (let p = place_within w ws in omega arith) t) (λ e. t)
 
 goal_numbered : (w : List ℕ) (ws : List (List ℕ)) (c : Cell) → length ws < 65536 → goal_cell c ≡ true → goal_cell (numbered w ws c) ≡ true
 goal_numbered w ws c h t =
-    cond_both (is_named c) (valued (place_of w ws) c) c (λ x. goal_cell x ≡ true) (λ e. goal_valued (place_of w ws) c (let p = place_most w ws in omega arith) t) (λ e. t)
+    cond_both (is_named c) (valued (place_of w ws) c) c (λ x. goal_cell x ≡ true) (λ e. goal_valued (place_of w ws) c (let p = place_within w ws in omega arith) t) (λ e. t)
 
 numbered_arity : (w : List ℕ) (ws : List (List ℕ)) (c : Cell) → (numbered w ws c).arity ≡ c.arity
 numbered_arity w ws c = cond_both (is_named c) (valued (place_of w ws) c) c (λ x. x.arity ≡ c.arity) (λ e. refl) (λ e. refl)

@@ -3,7 +3,7 @@ use Rattle.std.proofs.Common.{◌≡◌, ℕ, zero, suc, ◌+◌, ◌≤◌, ◌
 use Rattle.std.proofs.lemmas.List.Elements.{All-nil, All-cons, All-head, All-tail}
 use Rattle.std.proofs.lemmas.Bool.{cond-false, cond_both, and_left, and_parts, eqb-true, ne_eqb}
 use Rattle.terms.specs.declared.Cell.{Cell}
-use Rattle.names.specs.declared.Span.{Span}
+use Rattle.lexis.specs.declared.token.Span.{Span}
 use Rattle.clauses.specs.Clauses.{vars_after, InOrder, Low}
 use Rattle.draft.specs.Under.{Under}
 use Rattle.draft.specs.Sketch.{same_variable, is_variable}

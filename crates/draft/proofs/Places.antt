@@ -2,7 +2,7 @@
 use Rattle.std.proofs.Common.{◌≡◌, ℕ, ◌+◌, ◌<◌, ◌≤◌, List, [], ◌∷◌, ◌++◌, length, get_or, take, drop, set, sym, refl, ap, ◌∙◌, arith}
 use Rattle.std.proofs.lemmas.List.{append_assoc, append-nil, take_more_set, drop-set-lt, drop_more, take_all, drop_all}
 use Rattle.terms.specs.declared.Cell.{Cell}
-use Rattle.names.specs.declared.Span.{Span}
+use Rattle.lexis.specs.declared.token.Span.{Span}
 use Rattle.names.specs.Spans.{word_at}
 use Rattle.draft.specs.Numbering.{numbered, noted, numbered_all, words_after}
 

@@ -6,7 +6,7 @@ use Rattle.terms.specs.declared.Cell.{Cell}
 use Rattle.terms.specs.Shape.{skip, goals, term_cell, goal_cell}
 use Rattle.draft.specs.declared.grammar.Due.TheVariants.{Head, Argument, NameEnd, TermEnd}
 use Rattle.draft.specs.declared.Bracket.{Bracket}
-use Rattle.names.specs.declared.Span.{Span}
+use Rattle.lexis.specs.declared.token.Span.{Span}
 use Rattle.draft.specs.Drafts.{const_cell, symbol_cell}
 use Rattle.draft.specs.Sketch.{Sketch, no_cell, no_bracket, innermost, one_more, with_arity, recelled, rebracketed, with_cell, full, celled, argued, argued_by, goaled}
 use Rattle.draft.proofs.Spelling.{skip_push, skip_swap_after, goals_swap, goals_push}

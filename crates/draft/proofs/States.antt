@@ -7,7 +7,7 @@ use Rattle.clauses.specs.Clauses.{vars_after, InOrder}
 use Rattle.draft.specs.declared.grammar.Due.{Due}
 use Rattle.draft.specs.declared.grammar.Due.TheVariants.{Head, Goal, GoalOrDot, Argument, NameEnd, TermEnd, Nothing}
 use Rattle.draft.specs.declared.Bracket.{Bracket}
-use Rattle.names.specs.declared.Span.{Span}
+use Rattle.lexis.specs.declared.token.Span.{Span}
 use Rattle.draft.specs.Drafts.{const_cell, symbol_cell}
 use Rattle.draft.specs.Sketch.{Sketch, no_cell, recelled, rebracketed, with_cell}
 use Rattle.draft.proofs.Order.{vars_in, vars_push, order_push, vars_set, order_set}

@@ -12,7 +12,7 @@ use Rattle.draft.specs.declared.grammar.Due.TheVariants.{Head, Goal, GoalOrDot, 
 use Rattle.draft.specs.declared.reader.Form.{Form}
 use Rattle.draft.specs.declared.reader.Form.TheVariants.{Clause, Question}
 use Rattle.names.specs.Spans.{word_at}
-use Rattle.names.specs.declared.Span.{Span}
+use Rattle.lexis.specs.declared.token.Span.{Span}
 use Rattle.draft.specs.Drafts.{makes_cell, span_of, var_cell, const_cell, symbol_cell}
 use Rattle.draft.specs.Grammar.{after, goal_begins, term_begins, goal_or_dot, inside_ends, body_ends, head_ends, term_ends, name_ends}
 use Rattle.draft.specs.Sketch.{Sketch, innermost, argued, goaled, celled, variable_number, same_variable, entered, entered_as, too_many, failed, goes_on, sized_in, fitting, taken}
@@ -21,6 +21,7 @@ use Rattle.draft.proofs.States.{Ordered, Sound}
 use Rattle.draft.proofs.Pushing.{pushed_term, pushed_atom, pushed_symbol, head_more, goal_more, argument_more}
 use Rattle.draft.proofs.Closing.{name_term, open_more, comma_more, close_more, goal_ends, neck_more, all_ends}
 use Rattle.draft.specs.Under.{Under}
+use Rattle.draft.proofs.Refusals.{never}
 
 -- a token that was taken: what is due next, what it is worth, that it is not too many, and what it added
 pub record Took (text : List ℕ) (form : Form) (due : Due) (s : Sketch) (t : Token) (d : Due) (s' : Sketch) : Type 0 where
@@ -29,9 +30,6 @@ pub record Took (text : List ℕ) (form : Form) (due : Due) (s : Sketch) (t : To
   pub worth : worth_of text t ≡ Ok value
   pub small : (makes_cell t.kind && too_many s form due) ≡ false
   pub adds : entered_as t.kind text t due value s ≡ Ok s'
-
-never : {A : Type 0} (e : Fault) (a : A) → ◌≡◌ {A = Result A Fault} (Err e) (Ok a) → ⊥
-never e a h = let z : ◌≡◌ {A = ℕ} 0 1 = cc in omega arith
 
 went_on : (next d : Due) (s' : Sketch) (r : Result Sketch Fault) → goes_on next r ≡ Ok (d, s') → (next ≡ d) × (r ≡ Ok s')
 went_on next d s' (Ok a) e =

@@ -18,9 +18,7 @@ use Rattle.draft.proofs.Order.{low_order}
 use Rattle.draft.proofs.States.{State, Sound}
 use Rattle.draft.proofs.Steps.{took, took_sound}
 use Rattle.draft.proofs.Within.{took_over}
-
-never : {A : Type 0} (e : Fault) (a : A) → ◌≡◌ {A = Result A Fault} (Err e) (Ok a) → ⊥
-never e a h = let z : ◌≡◌ {A = ℕ} 0 1 = cc in omega arith
+use Rattle.draft.proofs.Refusals.{never}
 
 reads_sound : (text : List ℕ) (form : Form) (h : ℕ) (due : Due) (s s' : Sketch) (at end : ℕ) (r : Result (ℕ × Sketch) Fault)
     → Reads text form due s at r → r ≡ Ok (end, s') → Sound h due s → Sound h Nothing s'

@@ -1,5 +1,5 @@
 -- A clause that is read is over no limit.
-use Rattle.std.proofs.Common.{◌≡◌, ℕ, true, false, ◌&&◌, leb, List, length, Ok, Err, Result, sym, refl, ap, ◌∙◌, inl, inr, arith}
+use Rattle.std.proofs.Common.{◌≡◌, ℕ, true, false, ◌&&◌, leb, List, length, Ok, Err, Result, sym, refl, ap, ◌∙◌, inl, inr}
 use Rattle.std.proofs.lemmas.Bool.{cases_Bool, cond-true, cond-false, or_parts}
 use Rattle.terms.specs.declared.Cell.{Cell}
 use Rattle.lexis.specs.declared.fault.Fault.{Fault}
@@ -10,12 +10,13 @@ use Rattle.lexis.specs.declared.token.Kind.TheVariants.{Name, Variable, Integer,
 use Rattle.draft.specs.declared.grammar.Due.{Due}
 use Rattle.draft.specs.declared.grammar.Due.TheVariants.{Head, Goal, GoalOrDot, Argument, NameEnd, TermEnd, Nothing}
 use Rattle.draft.specs.declared.reader.Form.TheVariants.{Clause}
-use Rattle.names.specs.declared.Span.{Span}
+use Rattle.lexis.specs.declared.token.Span.{Span}
 use Rattle.draft.specs.Drafts.{makes_cell}
 use Rattle.draft.specs.Sketch.{Sketch, counted_as, celled, full, with_cell, opened, opened_in, entered_as, too_many}
 use Rattle.draft.proofs.Growth.{counted_cells}
 use Rattle.draft.proofs.Pushing.{argued_over}
 use Rattle.draft.proofs.Steps.{Took}
+use Rattle.draft.proofs.Refusals.{never}
 
 cells_room : (due : Due) (s : Sketch) → too_many s Clause due ≡ false → leb 32 (length s.cells) ≡ false
 cells_room Argument s e = (or_parts (leb 32 (length s.cells)) _ e).0
@@ -45,9 +46,6 @@ celled_over c w due s s' n m e o =
 
 kept : (s x s' : Sketch) → ◌≡◌ {A = Result Sketch Fault} (Ok x) (Ok s') → x.over ≡ s.over → s.over ≡ false → s'.over ≡ false
 kept s x s' e f o = let p : x ≡ s' = cc in ap (λ (y : Sketch). y.over) (sym p) ∙ (f ∙ o)
-
-never : (e : Fault) (a : Sketch) → ◌≡◌ {A = Result Sketch Fault} (Err e) (Ok a) → ⊥
-never e a h = let z : ◌≡◌ {A = ℕ} 0 1 = cc in omega arith
 
 opened_over : (s s' : Sketch) → opened_in s ≡ Ok s' → s.over ≡ false → s'.over ≡ false
 opened_over s s' e o =

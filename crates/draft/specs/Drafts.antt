@@ -6,7 +6,7 @@ use Rattle.lexis.specs.declared.token.Kind.{Kind}
 use Rattle.lexis.specs.declared.token.Kind.TheVariants.{Name, Variable, Integer, Float, Text, Open, Close, Comma, Dot, Neck, Query, End}
 use Rattle.draft.specs.declared.grammar.Due.{Due}
 use Rattle.draft.specs.declared.grammar.Due.TheVariants.{Head, Goal, GoalOrDot, Argument, NameEnd, TermEnd, Nothing}
-use Rattle.names.specs.declared.Span.{Span}
+use Rattle.lexis.specs.declared.token.Span.{Span}
 
 abbrev pub var_cell : ℕ → Cell
 var_cell v = record { tag = 0; form = 0; arity = 0; value = v }

@@ -3,7 +3,7 @@ use Rattle.std.specs.Prelude.{ℕ, Bool, cond, ◌&&◌, ◌||◌, List, [], ◌
 use Rattle.terms.specs.declared.Cell.{Cell}
 use Rattle.draft.specs.declared.Draft.{Draft}
 use Rattle.names.specs.declared.Names.{Names}
-use Rattle.names.specs.declared.Span.{Span}
+use Rattle.lexis.specs.declared.token.Span.{Span}
 use Rattle.names.specs.Places.{place_of, with_word}
 use Rattle.names.specs.Spans.{word_at, words_in}
 use Rattle.names.specs.Words.{names_of}

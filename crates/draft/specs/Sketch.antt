@@ -13,7 +13,7 @@ use Rattle.draft.specs.declared.grammar.Due.{Due}
 use Rattle.draft.specs.declared.grammar.Due.TheVariants.{Head, Goal, GoalOrDot, Argument, NameEnd, TermEnd, Nothing}
 use Rattle.draft.specs.declared.Draft.{Draft}
 use Rattle.draft.specs.declared.Bracket.{Bracket}
-use Rattle.names.specs.declared.Span.{Span}
+use Rattle.lexis.specs.declared.token.Span.{Span}
 use Rattle.draft.specs.declared.reader.Form.{Form}
 use Rattle.draft.specs.declared.reader.Form.TheVariants.{Clause, Question}
 use Rattle.draft.specs.Grammar.{after}

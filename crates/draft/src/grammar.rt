@@ -5,7 +5,7 @@ ghost use Rattle.draft.specs.Grammar.{goal_begins, term_begins, term_ends, after
 use lexis::token::Kind;
 
 // What is due: the head; a goal; a goal or at once the dot; an argument; what may follow a name; what may follow a whole term or goal; nothing.
-#[derive(Clone, Copy)]
+#[derive(Clone, Copy, PartialEq, Eq, Debug)]
 pub enum Due {
     Head,
     Goal,
@@ -19,10 +19,7 @@ pub enum Due {
 fn begin_goal(kind: Kind) -> Option<Due>
     ensures { result ≡ goal_begins kind }
 {
-    match kind {
-        Kind::Name => Some(Due::NameEnd),
-        _ => None,
-    }
+    (kind == Kind::Name).then_some(Due::NameEnd)
 }
 
 fn begin_term(kind: Kind) -> Option<Due>
@@ -49,19 +46,16 @@ fn end_term(kind: Kind, nested: bool, body: bool) -> Option<Due>
     }
 }
 
-// What is due after a token, or none where it does not fit.
+// What is due after a token, or none where it does not fit. A table of values and no function for each state: a text may nest deeper than a stack.
 pub fn follow(due: Due, kind: Kind, nested: bool, body: bool) -> Option<Due>
     ensures { result ≡ after due nested body kind }
 {
     match (due, kind) {
-        (Due::Head, _) => begin_goal(kind),
-        (Due::Goal, _) => begin_goal(kind),
         (Due::GoalOrDot, Kind::Dot) => Some(Due::Nothing),
-        (Due::GoalOrDot, _) => begin_goal(kind),
+        (Due::Head | Due::Goal | Due::GoalOrDot, _) => begin_goal(kind),
         (Due::Argument, _) => begin_term(kind),
         (Due::NameEnd, Kind::Open) => Some(Due::Argument),
-        (Due::NameEnd, _) => end_term(kind, nested, body),
-        (Due::TermEnd, _) => end_term(kind, nested, body),
+        (Due::NameEnd | Due::TermEnd, _) => end_term(kind, nested, body),
         (Due::Nothing, _) => None,
     }
 }

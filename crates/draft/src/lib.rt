@@ -6,20 +6,29 @@ ghost use Rattle.terms.specs.declared.Cell.{Cell as CellOf};
 ghost use Rattle.clauses.specs.Clauses.{Slim};
 ghost use Rattle.draft.specs.Under.{Under};
 
-use names::Span;
+use lexis::token::Span;
 use terms::Cell;
 
 pub mod grammar;
 pub mod reader;
 
+// A clause or question has at most so many cells and body goals, a symbol so many arguments, and so many brackets can be open.
+const CELLS: usize = 32;
+
+const GOALS: u8 = 8;
+
+const ARGUMENTS: u8 = 8;
+
+const DEPTH: usize = 8192;
+
 // An open bracket: the cell whose arguments it holds, and how many have begun.
-#[derive(Clone, Copy)]
+#[derive(Clone, Copy, PartialEq, Eq, Debug)]
 pub struct Bracket {
     pub cell: usize,
     pub args: u8,
 }
 
-// Its memory is taken once: 32 cells with their words, and 8,192 open brackets. It serves one clause or question after another.
+// Its memory is taken once: 32 cells with their words, and 8,192 open brackets. The spans of the words stand beside the cells, since the cells are lent as one slice. It serves one clause or question after another.
 // `start` is where the clause or question begins; `body` says that its head is past; `fresh` has the words that the book does not have, each once.
 // `over` says that a question has more than 32 cells or 8 goals: it is read to its end all the same, and no cell past the 32nd is kept.
 #[derive(Drop)]

@@ -10,21 +10,18 @@ ghost use Rattle.names.specs.Places.{place_of, with_word};
 ghost use Rattle.names.specs.Spans.{word_at};
 ghost use Rattle.names.specs.Words.{names_of};
 ghost use Rattle.draft.specs.Spelled.{Spelled};
-ghost use Rattle.draft.specs.Under.{Under};
-ghost use Rattle.terms.specs.declared.Cell.{Cell as CellOf};
 
 use crate::grammar::{Due, follow};
-use crate::{Bracket, Draft};
+use crate::{ARGUMENTS, Bracket, CELLS, DEPTH, Draft, GOALS};
 use lexis::fault::{Cause, Fault};
-use lexis::token::{Kind, Token, next_token, skip_blanks};
+use lexis::token::{Kind, Span, Token, next_token, skip_blanks};
 use lexis::worth::{word, worth};
-use names::words::{place, same};
-use names::{Names, Span};
+use names::Names;
 use std::alloc::{AllocError, Global};
 use terms::Cell;
 
 // What is read: a clause, which is refused at once where it is over a limit; or a question, whose cells and goals are judged at its end.
-#[derive(Clone, Copy)]
+#[derive(Clone, Copy, PartialEq, Eq, Debug)]
 pub enum Form {
     Clause,
     Question,
@@ -34,45 +31,13 @@ pub enum Form {
 fn cell_of(kind: Kind, due: Due, value: u32) -> Cell
     ensures { result ≡ cell_of kind due value }
 {
-    match kind {
-        Kind::Variable => Cell {
-            tag: 0,
-            form: 0,
-            arity: 0,
-            value,
-        },
-        Kind::Integer => Cell {
-            tag: 1,
-            form: 0,
-            arity: 0,
-            value,
-        },
-        Kind::Float => Cell {
-            tag: 1,
-            form: 1,
-            arity: 0,
-            value,
-        },
-        Kind::Text => Cell {
-            tag: 1,
-            form: 3,
-            arity: 0,
-            value,
-        },
-        _ => match due {
-            Due::Argument => Cell {
-                tag: 1,
-                form: 2,
-                arity: 0,
-                value,
-            },
-            _ => Cell {
-                tag: 2,
-                form: 0,
-                arity: 0,
-                value,
-            },
-        },
+    match (kind, due) {
+        (Kind::Variable, _) => Cell::variable(value),
+        (Kind::Integer, _) => Cell::integer(value),
+        (Kind::Float, _) => Cell::float(value),
+        (Kind::Text, _) => Cell::string(value),
+        (_, Due::Argument) => Cell::atom(value),
+        _ => Cell::symbol(value, 0),
     }
 }
 
@@ -85,20 +50,17 @@ fn span_of(token: Token) -> Span
             start: token.start.saturating_add(1),
             end: token.end.saturating_sub(1),
         },
-        _ => Span {
-            start: token.start,
-            end: token.end,
-        },
+        _ => token.span(),
     }
 }
 
 fn makes_cell(kind: Kind) -> bool
     ensures { result ≡ makes_cell kind }
 {
-    match kind {
-        Kind::Name | Kind::Variable | Kind::Integer | Kind::Float | Kind::Text => true,
-        _ => false,
-    }
+    matches!(
+        kind,
+        Kind::Name | Kind::Variable | Kind::Integer | Kind::Float | Kind::Text
+    )
 }
 
 // How many variables there are with one cell more.
@@ -117,22 +79,7 @@ fn is_variable(text: &[u8], sought: &[u8], cell: Cell, span: Span) -> bool
     ensures value { result ≡ is_variable text.now sought.now cell span }
     ensures tag { result ≡ true → cell.tag ≡ 0 }
 {
-    cell.tag == 0 && same(word(text, span.start, span.end), sought)
-}
-
-// The number of the first variable with the same word, or the next number.
-fn same_variable(text: &[u8], sought: &[u8], cells: &[Cell], spans: &[Span], next: u32) -> u32
-    requires level { length spans.now ≡ length cells.now }
-    requires low { (k : ℕ) (d : CellOf) → k < length cells.now → Under next (slice_index_or cells.now k d) }
-    ensures value { result ≡ same_variable text.now sought.now cells.now spans.now next }
-    ensures low { result ≤ next }
-{
-    for (i, c) in cells.iter().enumerate() {
-        if is_variable(text, sought, *c, spans[i]) {
-            return c.value;
-        }
-    }
-    next
+    cell.tag == 0 && word(text, span) == sought
 }
 
 // Whether the cell has a name or a string: a symbol, an atom or a string constant.
@@ -147,10 +94,10 @@ impl Draft {
     pub fn new(heap: Global) -> Result<Draft, AllocError>
         ensures { IfOk result (λ d. d.cells.items ≡ []) }
     {
-        let cells = Vec::with_capacity(heap, 32)?;
-        let spans = Vec::with_capacity(heap, 32)?;
-        let fresh = Vec::with_capacity(heap, 32)?;
-        let brackets = Vec::with_capacity(heap, 8192)?;
+        let cells = Vec::with_capacity(heap, CELLS)?;
+        let spans = Vec::with_capacity(heap, CELLS)?;
+        let fresh = Vec::with_capacity(heap, CELLS)?;
+        let brackets = Vec::with_capacity(heap, DEPTH)?;
         Ok(Draft {
             cells,
             spans,
@@ -200,29 +147,34 @@ impl Draft {
         self.over = false;
     }
 
+    // The number of the first variable with the same word, or the next number.
+    fn same_variable(&self, text: &[u8], sought: &[u8]) -> u32
+        ensures value { result ≡ same_variable text.now sought.now self.now.cells.items self.now.spans.items self.now.vars }
+        ensures low { result ≤ self.now.vars }
+    {
+        self.cells
+            .iter()
+            .zip(self.spans.iter())
+            .find(|(c, s)| is_variable(text, sought, **c, **s))
+            .map_or(self.vars, |(c, _)| c.value)
+    }
+
     // The number of a variable: that of the same word before, or the next one. A lone `_` is new each time.
     fn variable(&self, text: &[u8], sought: &[u8]) -> u32
         ensures value { result ≡ variable_number text.now sought.now (sketch_of self.now) }
         ensures low { result ≤ self.now.vars }
     {
-        if same(sought, b"_") {
+        if sought == b"_".as_slice() {
             return self.vars;
         }
-        same_variable(
-            text,
-            sought,
-            self.cells.as_slice(),
-            self.spans.as_slice(),
-            self.vars,
-        )
+        self.same_variable(text, sought)
     }
 
     // How many arguments have begun inside the innermost bracket.
     fn arguments(&self) -> u8
         ensures { result ≡ (innermost (self.now.brackets.items)).args }
     {
-        let n = self.brackets.len();
-        if n == 0 { 0 } else { self.brackets[n - 1].args }
+        self.brackets.last().map_or(0, |b| b.args)
     }
 
     // Whether one cell more is over a limit that is judged at once.
@@ -230,39 +182,12 @@ impl Draft {
         ensures { result ≡ too_many (sketch_of self.now) form due }
     {
         match (form, due) {
-            (Form::Clause, Due::Argument) => self.cells.len() >= 32 || self.arguments() >= 8,
-            (Form::Clause, Due::Goal) => self.cells.len() >= 32 || self.goals >= 8,
-            (Form::Clause, _) => self.cells.len() >= 32,
-            (Form::Question, Due::Argument) => self.arguments() >= 8,
+            (Form::Clause, Due::Argument) => self.cells.len() >= CELLS
+                || self.arguments() >= ARGUMENTS,
+            (Form::Clause, Due::Goal) => self.cells.len() >= CELLS || self.goals >= GOALS,
+            (Form::Clause, _) => self.cells.len() >= CELLS,
+            (Form::Question, Due::Argument) => self.arguments() >= ARGUMENTS,
             (Form::Question, _) => false,
-        }
-    }
-
-    fn cell_at(&self, i: usize) -> Cell
-        ensures value { result ≡ slice_index_or self.now.cells.items i no_cell }
-        ensures low { i < vec_len self.now.cells → Under self.now.vars result }
-        ensures slim { result.arity ≤ 8 }
-    {
-        if i < self.cells.len() {
-            self.cells[i]
-        } else {
-            Cell {
-                tag: 0,
-                form: 0,
-                arity: 0,
-                value: 0,
-            }
-        }
-    }
-
-    // Puts a cell in the place of another, where there is one.
-    fn replace(&mut self, i: usize, cell: Cell)
-        requires low { i < vec_len self.old.cells → Under self.old.vars cell }
-        requires slim { cell.arity ≤ 8 }
-        ensures { sketch_of self.new ≡ recelled (slice_set self.old.cells.items i cell) (sketch_of self.old) }
-    {
-        if i < self.cells.len() {
-            self.cells[i] = cell;
         }
     }
 
@@ -270,29 +195,20 @@ impl Draft {
     fn count_argument(&mut self)
         ensures { sketch_of self.new ≡ argued (sketch_of self.old) }
     {
-        let n = self.brackets.len();
-        if n == 0 {
+        let Some(bracket) = self.brackets.last_mut() else {
             return;
+        };
+        bracket.args = bracket.args.min(ARGUMENTS - 1) + 1;
+        let Bracket { cell, args } = *bracket;
+        if let Some(cell) = self.cells.get_mut(cell) {
+            cell.arity = args;
         }
-        let b = self.brackets[n - 1];
-        let args = b.args.min(7) + 1;
-        self.brackets[n - 1] = Bracket { cell: b.cell, args };
-        let c = self.cell_at(b.cell);
-        self.replace(
-            b.cell,
-            Cell {
-                tag: c.tag,
-                form: c.form,
-                arity: args,
-                value: c.value,
-            },
-        );
     }
 
     fn count_goal(&mut self)
         ensures { sketch_of self.new ≡ goaled (sketch_of self.old) }
     {
-        if self.goals >= 8 {
+        if self.goals >= GOALS {
             self.over = true;
         } else {
             self.goals += 1;
@@ -304,8 +220,7 @@ impl Draft {
     {
         match due {
             Due::Argument => self.count_argument(),
-            Due::Goal => self.count_goal(),
-            Due::GoalOrDot => self.count_goal(),
+            Due::Goal | Due::GoalOrDot => self.count_goal(),
             _ => {}
         }
     }
@@ -316,7 +231,7 @@ impl Draft {
         requires slim { cell.arity ≤ 8 }
         ensures { sketch_of self.new ≡ celled cell span (sketch_of self.old) }
     {
-        if self.cells.len() >= 32 {
+        if self.cells.len() >= CELLS {
             self.over = true;
             return;
         }
@@ -325,48 +240,31 @@ impl Draft {
         self.spans.push_reserved(span);
     }
 
-    fn value(&self, text: &[u8], token: Token, value: u32) -> u32
-        ensures value { result ≡ valued token.kind text.now (span_of token) value (sketch_of self.now) }
-        ensures low { token.kind ≡ Variable → result ≤ self.now.vars }
-    {
-        let span = span_of(token);
-        match token.kind {
-            Kind::Variable => self.variable(text, word(text, span.start, span.end)),
-            _ => value,
-        }
-    }
-
     // A token that makes a cell: an argument, a goal, or the head.
     fn add(&mut self, text: &[u8], token: Token, due: Due, value: u32)
         ensures { sketch_of self.new ≡ added text.now token due value (sketch_of self.old) }
     {
         self.count(due);
-        let n = self.value(text, token, value);
-        self.push(cell_of(token.kind, due, n), span_of(token));
+        let span = span_of(token);
+        let n = match token.kind {
+            Kind::Variable => self.variable(text, word(text, span)),
+            _ => value,
+        };
+        self.push(cell_of(token.kind, due, n), span);
     }
 
     // A bracket opens behind a name, which thereby is a function, or a predicate with arguments. Only a question can nest deeper than there is room.
     fn open_bracket(&mut self) -> Result<(), Fault>
         ensures { MatchResult result (λ _. opened_in (sketch_of self.old) ≡ Ok (sketch_of self.new)) (λ e. opened_in (sketch_of self.old) ≡ Err e) }
     {
-        if self.brackets.len() >= 8192 {
-            return Err(Fault {
-                cause: Cause::Question,
-                at: self.start,
-            });
+        if self.brackets.len() >= DEPTH {
+            return Err(Cause::Question.at(self.start));
         }
-        let i = self.cells.len().saturating_sub(1);
-        self.brackets.push_reserved(Bracket { cell: i, args: 0 });
-        let c = self.cell_at(i);
-        self.replace(
-            i,
-            Cell {
-                tag: 2,
-                form: 0,
-                arity: c.arity,
-                value: c.value,
-            },
-        );
+        let cell = self.cells.len().saturating_sub(1);
+        self.brackets.push_reserved(Bracket { cell, args: 0 });
+        if let Some(name) = self.cells.last_mut() {
+            *name = Cell::symbol(name.value, name.arity);
+        }
         Ok(())
     }
 
@@ -377,6 +275,7 @@ impl Draft {
     }
 
     // What a token that fits the grammar and is not too large adds to the draft.
+    #[tactic(auto, unfolding(crate::specs::Sketch::entered))]
     fn enter(&mut self, text: &[u8], token: Token, due: Due, value: u32) -> Result<(), Fault>
         ensures { MatchResult result (λ _. entered text.now token due value (sketch_of self.old) ≡ Ok (sketch_of self.new)) (λ e. entered text.now token due value (sketch_of self.old) ≡ Err e) }
     {
@@ -391,23 +290,17 @@ impl Draft {
     }
 
     // Judges the token for its place in the grammar, and then for its size; says what is due next.
+    #[tactic(auto, unfolding(crate::specs::Sketch::taken))]
     fn take(&mut self, text: &[u8], token: Token, due: Due, form: Form) -> Result<Due, Fault>
         ensures taken { MatchResult result (λ d. taken text.now form due (sketch_of self.old) token ≡ Ok (d, sketch_of self.new)) (λ e. taken text.now form due (sketch_of self.old) token ≡ Err e) }
         ensures more { OnOk result (token.kind ≢ End) }
     {
-        let nested = self.brackets.len() > 0;
-        let Some(next) = follow(due, token.kind, nested, self.body) else {
-            return Err(Fault {
-                cause: Cause::Grammar,
-                at: token.start,
-            });
-        };
+        let nested = !self.brackets.is_empty();
+        let misfit = Cause::Grammar.at(token.start);
+        let next = follow(due, token.kind, nested, self.body).ok_or(misfit)?;
         let value = worth(text, token)?;
         if makes_cell(token.kind) && self.too_many(form, due) {
-            return Err(Fault {
-                cause: Cause::Size,
-                at: token.start,
-            });
+            return Err(Cause::Size.at(token.start));
         }
         self.enter(text, token, due, value)?;
         Ok(next)
@@ -424,7 +317,7 @@ impl Draft {
             let token = next_token(text, place)?;
             due = self.take(text, token, due, form)?;
             place = token.end;
-            if let Due::Nothing = due {
+            if due == Due::Nothing {
                 return Ok(place);
             }
         }
@@ -439,15 +332,10 @@ impl Draft {
         ensures cells { self.new.cells ≡ self.old.cells }
         ensures fresh { vec_len self.new.fresh ≤ vec_len self.old.fresh + 1 }
     {
-        let n = place(
-            names,
-            text,
-            self.fresh.as_slice(),
-            word(text, span.start, span.end),
-        );
-        if n < names.len() + self.fresh.len() {
+        if let Some(n) = names.place(text, self.fresh.as_slice(), word(text, span)) {
             return n as u32;
         }
+        let n = names.len() + self.fresh.len();
         self.fresh.push_reserved(span);
         n as u32
     }
@@ -461,16 +349,11 @@ impl Draft {
         ensures cells { vec_len self.new.cells ≡ vec_len self.old.cells }
         ensures fresh { vec_len self.new.fresh ≤ vec_len self.old.fresh + 1 }
     {
-        let c = self.cell_at(i);
-        if is_named(c) {
+        let cell = self.cells[i];
+        if is_named(cell) {
             let span = self.spans[i];
             let value = self.symbol(names, text, span);
-            self.cells[i] = Cell {
-                tag: c.tag,
-                form: c.form,
-                arity: c.arity,
-                value,
-            };
+            self.cells[i] = Cell { value, ..cell };
         }
     }
 
@@ -482,6 +365,7 @@ impl Draft {
         ensures len { vec_len self.new.cells ≡ vec_len self.old.cells }
     {
         self.fresh.clear();
+        // By the index, which reaches a cell and its span: of cells that are changed inside a `zip` a proof knows nothing afterwards.
         for i in 0..self.cells.len() {
             self.number_cell(names, text, i);
         }
@@ -506,20 +390,13 @@ impl Draft {
         self.begin(query.start, true);
         let end = self.read(text, query.end, Due::GoalOrDot, Form::Question)?;
         let last = next_token(text, end)?;
-        let Kind::End = last.kind else {
-            return Err(Fault {
-                cause: Cause::Grammar,
-                at: last.start,
-            });
-        };
-        if self.over {
-            Err(Fault {
-                cause: Cause::Question,
-                at: query.start,
-            })
-        } else {
-            Ok(())
+        if last.kind != Kind::End {
+            return Err(Cause::Grammar.at(last.start));
         }
+        if self.over {
+            return Err(Cause::Question.at(query.start));
+        }
+        Ok(())
     }
 
     // Reads a question, which ends the text.
@@ -527,12 +404,9 @@ impl Draft {
         ensures { MatchResult result (λ _. QuestionRead text.now at (sketch_of self.new)) (λ e. QuestionRefused text.now at e) }
     {
         let token = next_token(text, at)?;
-        let Kind::Query = token.kind else {
-            return Err(Fault {
-                cause: Cause::Grammar,
-                at: token.start,
-            });
-        };
+        if token.kind != Kind::Query {
+            return Err(Cause::Grammar.at(token.start));
+        }
         self.goals(text, token)
     }
 }

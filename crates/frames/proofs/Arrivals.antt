@@ -1,8 +1,9 @@
 -- What becomes of a node that has just been reached.
-use Rattle.std.proofs.Common.{◌≡◌, ℕ, ◌<◌, ◌≤◌, Bool, true, false, cond, not, ◌&&◌, ◌||◌, eqb, ltb, leb, List, [], ◌∷◌, length, take, Some, None, Option, sym, refl, ap, ◌∙◌, subst, arith}
+use Rattle.std.proofs.Common.{◌≡◌, ℕ, ◌<◌, ◌≤◌, Bool, true, false, cond, ltb, leb, List, [], ◌∷◌, length, take, is_some, Some, None, Option, sym, refl, ap, ◌∙◌, subst, arith}
 use mathlib.Core.Option as option
+use Rattle.std.proofs.Math.Bool.{or-false, or-true, and-false}
 use Rattle.std.proofs.lemmas.List.{length-take-le}
-use Rattle.std.proofs.lemmas.Bool.{leb-true, leb-false, eq-eqb, ne_eqb}
+use Rattle.std.proofs.lemmas.Bool.{leb-true, leb-false}
 use Rattle.typing.specs.Terms.{Signature}
 use Rattle.trees.specs.Tree.{Goal, Program}
 use Rattle.trees.specs.Summaries.{Summary, better, ◌⊕◌, at_success, at_failed, at_cut}
@@ -13,8 +14,7 @@ use Rattle.unification.specs.declared.Outcome.TheVariants as outcome
 use Rattle.verdicts.specs.declared.ending.Left.TheVariants as left
 use Rattle.verdicts.specs.declared.ending.Left.{Left}
 use Rattle.verdicts.specs.declared.ending.Ending.{Ending}
-use Rattle.verdicts.specs.declared.ending.Ending.TheVariants.{Success, Untrue, Wrong, Cut, On}
-use Rattle.verdicts.specs.declared.ending.Leaves.{Leaves}
+use Rattle.verdicts.specs.declared.ending.Ending.TheVariants.{Success, Untrue, Wrong, Cut}
 use Rattle.verdicts.specs.declared.ending.Tally.{Tally}
 use Rattle.verdicts.specs.Leaves.{state_of, ending_of, shorter, least}
 use Rattle.frames.specs.declared.Frame.{Frame}
@@ -24,21 +24,9 @@ use Rattle.frames.specs.Goals.{Lists}
 use Rattle.frames.specs.Owed.{Reached, Owing, Owes, Kept, Tallied, Underway, Entering, Arrives, frame_at, frames_after, best_after, tally_after}
 use Rattle.frames.proofs.Memories.{back_here}
 
-better_none : (o : option.Option (List ℕ)) → better o option.none ≡ o
+pub better_none : (o : option.Option (List ℕ)) → better o option.none ≡ o
 better_none option.none = refl
 better_none (option.some p) = refl
-
-or_false : (b : Bool) → (b || false) ≡ b
-or_false true = refl
-or_false false = refl
-
-or_true : (b : Bool) → (b || true) ≡ true
-or_true true = refl
-or_true false = refl
-
-and_false : (b : Bool) → (b && false) ≡ false
-and_false true = refl
-and_false false = refl
 
 -- of two paths the shorter is kept, by its length
 kept_shorter : (b : Bool) (k j : ℕ) (r p trodden best : List ℕ) → length r ≡ k → take k trodden ≡ r → length p ≡ j → take j best ≡ p
@@ -58,42 +46,41 @@ kept_success (Some j) (option.some p) k r trodden best l e h =
 
 module _ (t : Tally) (best : List ℕ) (a : Summary) (h : Tallied t best a) where
   tallied_success : (k : ℕ) (r trodden : List ℕ) → length r ≡ k → take k trodden ≡ r
-      → Tallied (tally_after Success t k) (best_after Success t.leaves k trodden best) (a ⊕ at_success r)
+      → Tallied (tally_after (Some Success) t k) (best_after (Some Success) t.leaves k trodden best) (a ⊕ at_success r)
   tallied_success k r trodden l e =
       let s = h.steps in
-      record { steps = omega arith; uses = kept_success t.leaves.uses a.best k r trodden best l e h.uses; cut = or_false a.any_cut ∙ h.cut; wrong = and_false a.all_wrong }
+      record { steps = omega arith; uses = kept_success t.leaves.uses a.best k r trodden best l e h.uses; cut = or-false a.any_cut ∙ h.cut; wrong = and-false a.all_wrong }
 
-  tallied_failed : (k : ℕ) → Tallied (tally_after Untrue t k) best (a ⊕ at_failed)
+  tallied_failed : (k : ℕ) → Tallied (tally_after (Some Untrue) t k) best (a ⊕ at_failed)
   tallied_failed k =
       let s = h.steps in
-      record { steps = omega arith; uses = subst (Kept t.leaves.uses best) (sym (better_none a.best)) h.uses; cut = or_false a.any_cut ∙ h.cut; wrong = and_false a.all_wrong }
+      record { steps = omega arith; uses = subst (Kept t.leaves.uses best) (sym (better_none a.best)) h.uses; cut = or-false a.any_cut ∙ h.cut; wrong = and-false a.all_wrong }
 
-  tallied_cut : (k : ℕ) → Tallied (tally_after Cut t k) best (a ⊕ at_cut)
+  tallied_cut : (k : ℕ) → Tallied (tally_after (Some Cut) t k) best (a ⊕ at_cut)
   tallied_cut k =
       let s = h.steps in
-      record { steps = omega arith; uses = subst (Kept t.leaves.uses best) (sym (better_none a.best)) h.uses; cut = or_true a.any_cut; wrong = and_false a.all_wrong }
+      record { steps = omega arith; uses = subst (Kept t.leaves.uses best) (sym (better_none a.best)) h.uses; cut = or-true a.any_cut; wrong = and-false a.all_wrong }
 
 marks_at : (m : Memory) (n : Node) → Marks m (frame_at m n)
 marks_at m n = record { cells = refl; trail = refl; waiting = refl }
 
 module _ (home : Memory) (P : Program) (kind : Signature) (limit : ℕ) (whole : Summary) (m : Memory) (trodden best : List ℕ) (fs : List Frame) (t : Tally) (n : Node) (long : n.step ≤ length trodden) where
-  abbrev After : Ending → Type 0
+  abbrev After : Option Ending → Type 0
   After end = Underway home P kind limit whole m trodden (best_after end t.leaves n.step trodden best) (frames_after end (frame_at m n) fs) (tally_after end t n.step)
 
   abbrev left_at : Left
-  left_at = state_of (not (eqb n.goals 0)) n.step limit
+  left_at = state_of (is_some n.goals) n.step limit
 
   on_nothing : (e : Entering home P kind limit whole m trodden best fs t n) → e.goals ≡ [] → left_at ≡ left.Nothing
   on_nothing e none =
-      let z : n.goals ≡ 0 = subst (λ gs. Lists m.cells m.waiting n.goals gs) none e.reached.goals in
-      ap (λ b. state_of (not b) n.step limit) (eq-eqb n.goals 0 z)
+      let z : n.goals ≡ None = subst (λ gs. Lists m.cells m.waiting n.goals gs) none e.reached.goals in
+      ap (λ o. state_of (is_some o) n.step limit) z
 
   on_some : (e : Entering home P kind limit whole m trodden best fs t n) (g : Goal) (gs : List Goal) → e.goals ≡ g ∷ gs → left_at ≡ state_of true n.step limit
   on_some e g gs some =
-      let z = (subst (λ gs. Lists m.cells m.waiting n.goals gs) some e.reached.goals).1.some in
-      ap (λ b. state_of (not b) n.step limit) (ne_eqb n.goals 0 (λ i. omega arith))
+      ap (λ o. state_of (is_some o) n.step limit) (subst (λ gs. Lists m.cells m.waiting n.goals gs) some e.reached.goals).1.some
 
-  success : (e : Entering home P kind limit whole m trodden best fs t n) → e.goals ≡ [] → n.flag ≡ true → After Success
+  success : (e : Entering home P kind limit whole m trodden best fs t n) → e.goals ≡ [] → n.flag ≡ true → After (Some Success)
   success e none flag =
       let path = e.reached.path flag in
       let l : length e.path ≡ n.step = sym (ap length path) ∙ length-take-le n.step trodden long in
@@ -107,7 +94,7 @@ module _ (home : Memory) (P : Program) (kind : Signature) (limit : ℕ) (whole :
             (subst (λ gs. Toward P kind limit whole e.sum (node e.path n.flag gs e.equations n.step ∷ e.works)) none e.toward));
       }
 
-  failed : (e : Entering home P kind limit whole m trodden best fs t n) → e.goals ≡ [] → n.flag ≡ false → After Untrue
+  failed : (e : Entering home P kind limit whole m trodden best fs t n) → e.goals ≡ [] → n.flag ≡ false → After (Some Untrue)
   failed e none flag =
       record {
         sum = e.sum ⊕ at_failed;
@@ -119,7 +106,7 @@ module _ (home : Memory) (P : Program) (kind : Signature) (limit : ℕ) (whole :
             (subst (λ gs. Toward P kind limit whole e.sum (node e.path n.flag gs e.equations n.step ∷ e.works)) none e.toward));
       }
 
-  cut : (e : Entering home P kind limit whole m trodden best fs t n) (g : Goal) (gs : List Goal) → e.goals ≡ g ∷ gs → limit ≤ n.step → After Cut
+  cut : (e : Entering home P kind limit whole m trodden best fs t n) (g : Goal) (gs : List Goal) → e.goals ≡ g ∷ gs → limit ≤ n.step → After (Some Cut)
   cut e g gs some late =
       record {
         sum = e.sum ⊕ at_cut;
@@ -130,7 +117,7 @@ module _ (home : Memory) (P : Program) (kind : Signature) (limit : ℕ) (whole :
             (subst (λ gs. Toward P kind limit whole e.sum (node e.path n.flag gs e.equations n.step ∷ e.works)) some e.toward);
       }
 
-  on : (e : Entering home P kind limit whole m trodden best fs t n) (g : Goal) (gs : List Goal) → e.goals ≡ g ∷ gs → n.step < limit → After On
+  on : (e : Entering home P kind limit whole m trodden best fs t n) (g : Goal) (gs : List Goal) → e.goals ≡ g ∷ gs → n.step < limit → After None
   on e g gs some early =
       let w = node e.path n.flag (g ∷ gs) e.equations n.step in
       let here = sym (back_here m (frame_at m n) (marks_at m n)) in
@@ -150,7 +137,7 @@ module _ (home : Memory) (P : Program) (kind : Signature) (limit : ℕ) (whole :
     where
       by_flag : (f : Bool) → n.flag ≡ f → e.goals ≡ [] → (o' : Outcome) → o ≡ o' → After (ending_of f left.Nothing o')
       by_flag true flag none outcome.Solved i = success e none flag
-      by_flag true flag none outcome.False i = absurd (let c : true ≡ false = sym flag ∙ fall i in let z : ◌≡◌ {A = ℕ} 0 1 = cc in omega arith)
+      by_flag true flag none outcome.False i = absurd (let c : true ≡ false = sym flag ∙ fall i in cc)
       by_flag true flag none outcome.Wrong i = absurd (right i)
       by_flag false flag none outcome.Solved i = failed e none flag
       by_flag false flag none outcome.False i = failed e none flag
@@ -168,18 +155,18 @@ module _ (home : Memory) (P : Program) (kind : Signature) (limit : ℕ) (whole :
       by [] none = subst (λ l. After (ending_of n.flag l o)) (sym (on_nothing e none)) (by_flag n.flag refl none o refl)
       by (g ∷ gs) some = subst (λ l. After (ending_of n.flag l o)) (sym (on_some e g gs some)) (by-limit g gs some (leb limit n.step) refl o refl)
 
-  wrong_ends : (f : Bool) (l : Left) → ending_of f l outcome.Wrong ≡ Wrong
+  wrong_ends : (f : Bool) (l : Left) → ending_of f l outcome.Wrong ≡ Some Wrong
   wrong_ends f left.Nothing = refl
   wrong_ends f left.Cut = refl
   wrong_ends f left.Goals = refl
 
-  pub arrived : (o : Outcome) (end : Ending) → end ≡ ending_of n.flag left_at o → Arrives home P kind limit whole m trodden best fs t n o → After end
-  arrived outcome.Solved end e h = subst After (sym e) (entered outcome.Solved (λ i. let z : ◌≡◌ {A = ℕ} 0 1 = cc in omega arith) (λ i. absurd (let z : ◌≡◌ {A = ℕ} 0 1 = cc in omega arith)) h)
-  arrived outcome.False end e h = subst After (sym e) (entered outcome.False (λ i. let z : ◌≡◌ {A = ℕ} 0 1 = cc in omega arith) (λ i. h.1) h.0)
+  pub arrived : (o : Outcome) (end : Option Ending) → end ≡ ending_of n.flag left_at o → Arrives home P kind limit whole m trodden best fs t n o → After end
+  arrived outcome.Solved end e h = subst After (sym e) (entered outcome.Solved (λ i. cc) (λ i. absurd (cc)) h)
+  arrived outcome.False end e h = subst After (sym e) (entered outcome.False (λ i. cc) (λ i. h.1) h.0)
   arrived outcome.Wrong end e h = subst After (sym (e ∙ wrong_ends n.flag left_at)) h
 
   -- the same, where the parts are known by equations
-  pub arrived_to : (o : Outcome) (end : Ending) → end ≡ ending_of n.flag left_at o → (m' : Memory) (trodden' best' : List ℕ) (fs' : List Frame) (t' : Tally)
+  pub arrived_to : (o : Outcome) (end : Option Ending) → end ≡ ending_of n.flag left_at o → (m' : Memory) (trodden' best' : List ℕ) (fs' : List Frame) (t' : Tally)
       → m' ≡ m → trodden' ≡ trodden → best' ≡ best_after end t.leaves n.step trodden best → fs' ≡ frames_after end (frame_at m n) fs → t' ≡ tally_after end t n.step
       → Arrives home P kind limit whole m trodden best fs t n o → Underway home P kind limit whole m' trodden' best' fs' t'
   arrived_to o end e m' trodden' best' fs' t' me te be fe le h =
@@ -188,21 +175,6 @@ module _ (home : Memory) (P : Program) (kind : Signature) (limit : ℕ) (whole :
       (subst (λ x. Underway home P kind limit whole m trodden x fs' t') (sym be)
       (subst (λ x. Underway home P kind limit whole m trodden (best_after end t.leaves n.step trodden best) x t') (sym fe)
       (subst (λ x. Underway home P kind limit whole m trodden (best_after end t.leaves n.step trodden best) (frames_after end (frame_at m n) fs) x) (sym le) (arrived o end e h)))))
-
--- only a success is kept, and only a node that goes on has a frame
-pub best_other : (end : Ending) (l : Leaves) (k : ℕ) (trodden best : List ℕ) → (end ≡ Success → ⊥) → best ≡ best_after end l k trodden best
-best_other Success l k trodden best n = absurd (n refl)
-best_other On l k trodden best n = refl
-best_other Untrue l k trodden best n = refl
-best_other Wrong l k trodden best n = refl
-best_other Cut l k trodden best n = refl
-
-pub frames_other : (end : Ending) (f : Frame) (fs : List Frame) → (end ≡ On → ⊥) → fs ≡ frames_after end f fs
-frames_other On f fs n = absurd (n refl)
-frames_other Success f fs n = refl
-frames_other Untrue f fs n = refl
-frames_other Wrong f fs n = refl
-frames_other Cut f fs n = refl
 
 -- a frame with these marks
 pub frame_at_lem : (m : Memory) (n : Node) (f : Frame) → f.node ≡ n → f.clause ≡ 0 → f.bindings.cells ≡ length m.cells → f.bindings.trail ≡ length m.trail → f.waiting ≡ length m.waiting → f ≡ frame_at m n

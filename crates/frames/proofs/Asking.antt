@@ -108,7 +108,7 @@ pub goals_read : (question : List Cell) → is_some (goals 0 0 question) ≡ tru
 goals_read question list low = go (goals 0 0 question) refl list
   where
     go : (o : Option ℕ) → goals 0 0 question ≡ o → is_some o ≡ true → (gs : List Goal) × (question ≡ spell_goals gs) × GoalsBelow 32 gs
-    go None e h = absurd (let z : ◌≡◌ {A = ℕ} 0 1 = cc in omega arith)
+    go None e h = absurd (cc)
     go (Some n) e h =
         let p = parse_goals 0 n question e in
         (p.0, p.1, goals_below p.0 (subst (λ cs. all_low cs ≡ true) p.1 low))
@@ -173,7 +173,7 @@ module _ (lists : ℕ → ℕ → List (List Cell)) (formed : (s a k : ℕ) → 
       answered (Err Allowance) (refl, more P gs tree (program_read lists formed).1 (goals_read question list low).1 (every_tree P kind limit true gs E 0).1, same) (λ below. tt)
 
 -- the question's cells and goals come after what stood
-module _ (home : Memory) (question : List Cell) (gs : List Goal) (spelt : question ≡ spell_goals gs) (cs : List Cell) (l t : List ℕ) (ws : List Waiting) (place k r : ℕ)
+module _ (home : Memory) (question : List Cell) (gs : List Goal) (spelt : question ≡ spell_goals gs) (cs : List Cell) (l t : List ℕ) (ws : List Waiting) (place k : ℕ) (r : Option ℕ)
     (cells : cs ≡ home.cells ++ question) (links : l ≡ home.links) (trail : t ≡ home.trail) (kept : take k ws ≡ home.waiting) (at : place ≡ length home.cells) where
   abbrev root_memory : Memory
   root_memory = record { cells = cs; links = l; trail = t; waiting = ws }
@@ -193,7 +193,7 @@ module _ (home : Memory) (question : List Cell) (gs : List Goal) (spelt : questi
       subst (λ x. Standing kind cs x E) (sym links)
       (subst (λ x. Standing kind x home.links E) (sym cells) (standing_question kind home.cells question home.links E gs (let z = ap length cells in omega arith) spelt s))
 
-  pub root_listed : ((bs hs : List Goal) → drop place cs ≡ spell_goals bs → Lists cs home.waiting 0 hs → Lists cs ws r (bs ++ hs)) → Lists cs ws r gs
+  pub root_listed : ((bs hs : List Goal) → drop place cs ≡ spell_goals bs → Lists cs home.waiting None hs → Lists cs ws r (bs ++ hs)) → Lists cs ws r gs
   root_listed lists =
       subst (Lists cs ws r) (append-nil gs)
       (lists gs [] (ap (λ n. drop n cs) at ∙ (ap (drop (length home.cells)) cells ∙ (drop_at home.cells question (length home.cells) refl ∙ spelt))) refl)

@@ -1,5 +1,5 @@
 -- Going back from what has grown; goal lists in what has grown; frames whose branch is written on.
-use Rattle.std.proofs.Common.{◌≡◌, ℕ, suc, ◌-◌, ◌<◌, ◌≤◌, List, [], ◌∷◌, ◌++◌, length, take, drop, set, sym, refl, ap, ◌∙◌, append_assoc, append-nil, arith}
+use Rattle.std.proofs.Common.{◌≡◌, ℕ, suc, ◌<◌, ◌≤◌, List, [], ◌∷◌, ◌++◌, length, take, drop, set, Option, sym, refl, ap, ◌∙◌, append_assoc, append-nil, arith}
 use Rattle.std.proofs.lemmas.List.{take_at, take-set-le, drop-append-le, get_or_append_left, length-append, length-drop}
 use Rattle.terms.specs.declared.Cell.{Cell}
 use Rattle.typing.specs.Terms.{Term, var, con, fun, Eqs, Signature}
@@ -12,7 +12,7 @@ use Rattle.frames.specs.declared.Waiting.{Waiting}
 use Rattle.frames.specs.declared.Frame.{Frame}
 use Rattle.frames.specs.declared.Node.{Node}
 use Rattle.frames.specs.Memory.{Memory, back, rolled, Grown, Marks}
-use Rattle.frames.specs.Goals.{Nth, Lists}
+use Rattle.frames.specs.Goals.{First, Lists}
 use Rattle.frames.specs.Owed.{Reached, Lower, Owing, Owes}
 
 pub memory_path : (m n : Memory) → m.cells ≡ n.cells → m.links ≡ n.links → m.trail ≡ n.trail → m.waiting ≡ n.waiting → m ≡ n
@@ -59,15 +59,15 @@ stands_grown cs more p t s =
     let l = length-drop p cs in let e = ap length s.1 ∙ length-append (flat t) s.0 in let o = some_cell t in
     (s.0 ++ more, drop-append-le p cs more (omega arith) ∙ (ap (λ xs. xs ++ more) s.1 ∙ append_assoc (flat t) s.0 more))
 
-nth_grown : (ws later : List Waiting) (n : ℕ) (w : Waiting) → Nth ws n w → Nth (ws ++ later) n w
-nth_grown ws later n w h =
-    let some = h.some in let within = h.within in let l = length-append ws later in
-    record { some = h.some; within = omega arith; is = get_or_append_left ws later w (n - 1) (omega arith) ∙ h.is }
+first_grown : (ws later : List Waiting) (list : Option ℕ) (w : Waiting) → First ws list w → First (ws ++ later) list w
+first_grown ws later list w h =
+    let within = h.within in let l = length-append ws later in
+    record { place = h.place; some = h.some; within = omega arith; is = get_or_append_left ws later w h.place (omega arith) ∙ h.is }
 
-pub lists_grown : (cs more : List Cell) (ws later : List Waiting) (n : ℕ) (gs : List Goal) → Lists cs ws n gs → Lists (cs ++ more) (ws ++ later) n gs
-lists_grown cs more ws later n [] h = h
-lists_grown cs more ws later n (g ∷ gs) h =
-    (h.0, nth_grown ws later n h.0 h.1, stands_grown cs more h.0.goal (fun g.symbol g.arguments) h.2, lists_grown cs more ws later h.0.rest gs h.3)
+pub lists_grown : (cs more : List Cell) (ws later : List Waiting) (list : Option ℕ) (gs : List Goal) → Lists cs ws list gs → Lists (cs ++ more) (ws ++ later) list gs
+lists_grown cs more ws later list [] h = h
+lists_grown cs more ws later list (g ∷ gs) h =
+    (h.0, first_grown ws later list h.0 h.1, stands_grown cs more h.0.goal (fun g.symbol g.arguments) h.2, lists_grown cs more ws later h.0.rest gs h.3)
 
 -- a branch that is written on from step k is what it was below
 pub reached_set : (kind : Signature) (trodden : List ℕ) (k v : ℕ) (m : Memory) (n : Node) (r : List ℕ) (gs : List Goal) (E : Eqs) → n.step ≤ k

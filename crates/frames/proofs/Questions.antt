@@ -1,19 +1,21 @@
 -- A question that has been judged fits among the cells.
-use Rattle.std.proofs.Common.{◌≡◌, ℕ, zero, suc, ◌+◌, ◌-◌, ◌≤◌, Bool, true, false, cond, not, ◌&&◌, ◌||◌, eqb, ltb, leb, List, [], ◌∷◌, ◌++◌, length, take, drop, is_some, Some, None, All, Option, refl, ap, ◌∙◌, arith}
+use Rattle.std.proofs.Common.{◌≡◌, ℕ, zero, suc, ◌+◌, ◌≤◌, Bool, true, false, cond, not, ◌&&◌, ◌||◌, eqb, ltb, leb, List, [], ◌∷◌, ◌++◌, length, is_some, Some, None, Ok, Err, All, Option, Result, refl, ap, ◌∙◌, arith}
 use Rattle.std.proofs.lemmas.List.Elements.{All-head, All-tail}
-use Rattle.std.proofs.lemmas.List.{take-append-le, drop-append-le, take_all, drop_all, length-append, length-take-le}
-use Rattle.std.proofs.lemmas.Bool.{eqb-true, ltb-true, ltb-false, le-leb, lt-ltb, cond-true}
+use Rattle.std.proofs.lemmas.List.{length-append}
+use Rattle.std.proofs.lemmas.Bool.{eqb-true, ltb-true, ltb-false, le-leb, lt-ltb, le-ltb, cond-true}
+use Rattle.std.specs.Result.{result_and, result_err}
 use Rattle.clauses.specs.Clauses.{Low}
 use Rattle.terms.specs.declared.Cell.{Cell}
 use Rattle.terms.specs.Shape.{term_cell, goal_cell, goals, low_cell, all_low}
 use Rattle.graphs.specs.Cells.{fits, all_fit}
 use Rattle.unification.specs.State.{takes}
-use Rattle.frames.specs.Asked.{judged, judged_list, Sized}
+use Rattle.frames.specs.Asked.{judged, judged_list, judged_path, Sized}
+use Rattle.verdicts.specs.declared.Refusal.{Refusal}
 use Rattle.verdicts.specs.declared.Refusal.TheVariants.{ScratchShort, TooLarge, PathShort}
 use Rattle.frames.proofs.Loading.{and_true}
 
 false_true : {P : Type 0} → false ≡ true → P
-false_true e = absurd (let z : ◌≡◌ {A = ℕ} 0 1 = cc in omega arith)
+false_true e = absurd (cc)
 
 and_right : (a b : Bool) → (a && b) ≡ true → b ≡ true
 and_right true b e = e
@@ -65,21 +67,6 @@ fit_goals k (suc n) (c ∷ cs) e l =
 pub taken : (cells question : List Cell) → length cells ≤ 512 → length question ≤ 32 → is_some (goals 0 0 question) ≡ true → all_low question ≡ true → takes cells question ≡ true
 taken cells question e few list low = and_true _ _ (le-leb (length cells + length question) 1568 (omega arith)) (fit_goals 0 0 question list low)
 
--- the first places are written, and the rest stays
-pub path_written : (n : ℕ) (best path copy : List ℕ) → n ≤ length best → copy ≡ take (n - 0) best → take n (copy ++ drop (n - 0) (drop 0 path)) ≡ take n best
-path_written n best path copy h e =
-    let z : n - 0 ≡ n = omega arith in
-    let c : copy ≡ take n best = e ∙ ap (λ k. take k best) z in
-    let l : length copy ≡ n = ap length c ∙ length-take-le n best h in
-    take-append-le n copy _ (omega arith) ∙ (take_all n copy (omega arith) ∙ c)
-
-pub path_kept : (n : ℕ) (best path copy : List ℕ) → n ≤ length best → copy ≡ take (n - 0) best → drop n (copy ++ drop (n - 0) (drop 0 path)) ≡ drop n path
-path_kept n best path copy h e =
-    let z : n - 0 ≡ n = omega arith in
-    let c : copy ≡ take n best = e ∙ ap (λ k. take k best) z in
-    let l : length copy ≡ n = ap length c ∙ length-take-le n best h in
-    drop-append-le n copy _ (omega arith) ∙ (ap (λ xs. xs ++ drop (n - 0) (drop 0 path)) (drop_all n copy (omega arith)) ∙ ap (λ k. drop k path) z)
-
 -- it is appended, and takes 32 places at most
 pub placed : (cells question cells' : List Cell) (r : Option ℕ) → length cells ≤ 512 → length question ≤ 32 → is_some (goals 0 0 question) ≡ true → all_low question ≡ true
     → r ≡ cond (takes cells question) (Some (length cells)) None → cells' ≡ cond (takes cells question) (cells ++ question) cells
@@ -91,13 +78,13 @@ placed cells question cells' r e few list low re ce =
     (re ∙ cond-true (takes cells question) _ _ t, more, omega arith)
 
 -- where nothing is refused
-unjudged : {A : Type 0} (b : Bool) (x : A) (y : Option A) → cond b (Some x) y ≡ None → (b ≡ false) × (y ≡ None)
-unjudged true x y e = absurd (let z : ◌≡◌ {A = ℕ} 0 1 = cc in omega arith)
-unjudged false x y e = (refl, e)
-
 neither : (a b : Bool) → (a || b) ≡ false → (a ≡ false) × (b ≡ false)
-neither true b e = absurd (let z : ◌≡◌ {A = ℕ} 0 1 = cc in omega arith)
+neither true b e = absurd (cc)
 neither false b e = (refl, e)
+
+unjudged : (b : Bool) (e : Refusal) (q : Result (Unit {0}) Refusal) → result_err (result_and (cond b (Err e) (Ok (tt {0}))) q) ≡ None → (b ≡ false) × (result_err q ≡ None)
+unjudged true e q h = absurd (cc)
+unjudged false e q h = (refl, h)
 
 pub judged_none : (question : List Cell) (pairs frames path : ℕ) → judged question pairs frames path ≡ None → Sized question pairs frames × (32 ≤ path)
 judged_none question pairs frames path e =
@@ -105,15 +92,19 @@ judged_none question pairs frames path e =
     let s = neither (ltb pairs 12864) (ltb frames 512) u.0 in
     go (goals 0 0 question) (all_low question) refl refl u.1 (ltb-false pairs 12864 s.0) (ltb-false frames 512 s.1)
   where
-    go : (o : Option ℕ) (low : Bool) → goals 0 0 question ≡ o → all_low question ≡ low → judged_list o low (length question) path ≡ None → 12864 ≤ pairs → 512 ≤ frames
+    go : (o : Option ℕ) (low : Bool) → goals 0 0 question ≡ o → all_low question ≡ low → result_err (result_and (judged_list o low (length question)) (judged_path path)) ≡ None → 12864 ≤ pairs → 512 ≤ frames
         → Sized question pairs frames × (32 ≤ path)
-    go None low g l h wide deep = absurd (let z : ◌≡◌ {A = ℕ} 0 1 = cc in omega arith)
-    go (Some n) false g l h wide deep = absurd (let z : ◌≡◌ {A = ℕ} 0 1 = cc in omega arith)
+    go None low g l h wide deep = absurd (cc)
+    go (Some n) false g l h wide deep = absurd (cc)
     go (Some n) true g l h wide deep =
         let t = unjudged (ltb 32 (length question) || ltb 8 n) TooLarge _ h in
         let f = neither (ltb 32 (length question)) (ltb 8 n) t.0 in
-        let p = unjudged (ltb path 32) PathShort None t.1 in
+        let p = unjudged (ltb path 32) PathShort (Ok tt) (long (ltb path 32) t.1) in
         (record { list = ap is_some g; low = l; few = ltb-false 32 (length question) f.0; wide = wide; deep = deep }, ltb-false path 32 p.0)
+      where
+        long : (b : Bool) → result_err (cond b (Err PathShort) (Ok (tt {0}))) ≡ None → result_err (result_and (cond b (Err PathShort) (Ok (tt {0}))) (Ok (tt {0}))) ≡ None
+        long true h = h
+        long false h = h
 
 -- the place that an option holds
 pub some_place : (o : Option ℕ) (p n : ℕ) → o ≡ Some p → o ≡ Some n → p ≡ n
@@ -128,15 +119,8 @@ all_low_lem (c ∷ cs) h = ap (λ b. cond b (all_low cs) false) (low (eqb c.tag 
     low true e = lt-ltb c.value 32 (let v = All-head Low c cs h (eqb-true c.tag 0 e) in omega arith)
     low false e = refl
 
-ltb_no : (a b : ℕ) → b ≤ a → ltb a b ≡ false
-ltb_no a b h = go (ltb a b) refl
-  where
-    go : (x : Bool) → ltb a b ≡ x → x ≡ false
-    go true e = absurd (let z = ltb-true a b e in omega arith)
-    go false e = refl
-
 pub judged_spelled : (question : List Cell) (pairs frames path n : ℕ) → goals 0 0 question ≡ Some (0 + n) → n ≤ 8 → length question ≤ 32 → All Low question → 12864 ≤ pairs → 512 ≤ frames → 32 ≤ path
     → judged question pairs frames path ≡ None
 judged_spelled question pairs frames path n list eight few low wide deep long =
     let z : 0 + n ≡ n = omega arith in
-    rw (ltb_no pairs 12864 wide, ltb_no frames 512 deep, list, all_low_lem question low, ltb_no 32 (length question) few, z, ltb_no 8 n eight, ltb_no path 32 long)
+    rw (le-ltb pairs 12864 wide, le-ltb frames 512 deep, list, all_low_lem question low, le-ltb 32 (length question) few, z, le-ltb 8 n eight, le-ltb path 32 long)

@@ -21,13 +21,13 @@ use Rattle.frames.proofs.Listing.{later_of}
 
 module _ (kind : Signature) (f : Frame) (w : Waiting) (head : Option ℕ) (h : ℕ) (some : head ≡ Some h) (m : Memory) (n : Node) (o : Outcome) where
   -- solved: cells, links and trail after the new equation, and the goals that wait after its body is listed
-  pub resolved_solved : o ≡ outcome.Solved → (cs : List Cell) (l t : List ℕ) (ws : List Waiting) (place rest k : ℕ)
+  pub resolved_solved : o ≡ outcome.Solved → (cs : List Cell) (l t : List ℕ) (ws : List Waiting) (place k : ℕ)
       → Unified kind m.cells m.links w.goal h l o → Settles m.links m.trail l t o → cs ≡ m.cells
       → place ≡ after cs h → take k ws ≡ m.waiting
       → ((bs gs : List Goal) → drop place cs ≡ spell_goals bs → Lists cs m.waiting w.rest gs → Lists cs ws n.goals (bs ++ gs))
       → n.flag ≡ f.node.flag → n.step ≡ f.node.step + 1
       → Resolved kind f w head m (record { cells = cs; links = l; trail = t; waiting = ws }) n o
-  resolved_solved is cs l t ws place rest k told settles same at kept lists flag step =
+  resolved_solved is cs l t ws place k told settles same at kept lists flag step =
       let m' : Memory = record { cells = cs; links = l; trail = t; waiting = ws } in
       let up : TakenUp kind f w h m m' n =
       record {

@@ -1,12 +1,12 @@
 -- A step from the newest frame is a move of the search toward its tree.
-use Rattle.std.proofs.Common.{◌≡◌, ℕ, zero, suc, ◌+◌, ◌-◌, ◌<◌, ◌≤◌, Bool, true, false, ◌&&◌, ◌||◌, ltb, List, [], ◌∷◌, ◌++◌, length, get_or, take, drop, set, Some, None, Option, sym, refl, ap, ◌∙◌, subst, append-nil, add-one, arith}
-use mathlib.Core.Option as option
+use Rattle.std.proofs.Common.{◌≡◌, ℕ, zero, suc, ◌+◌, ◌<◌, ◌≤◌, Bool, true, false, ltb, List, [], ◌∷◌, ◌++◌, length, get_or, take, drop, set, Some, None, Option, sym, refl, ap, ◌∙◌, subst, append-nil, add-one, arith}
 use Rattle.std.proofs.lemmas.List.{get_or_default, take_more_set, drop_at}
+use Rattle.std.proofs.Math.Bool.{or-false, and-true}
 use Rattle.std.proofs.lemmas.Bool.{lt-ltb, cond-true}
 use Rattle.terms.specs.declared.Cell.{Cell}
 use Rattle.typing.specs.Terms.{Term, fun, Eqs, Signature, arity}
 use Rattle.trees.specs.Tree.{Goal, Clause, Program, listed, fresh, new_head, new_body, with_head}
-use Rattle.trees.specs.Summaries.{Summary, better, ◌⊕◌, tick}
+use Rattle.trees.specs.Summaries.{Summary, ◌⊕◌, tick}
 use Rattle.trees.specs.Search.{Work, node, tries, Toward}
 use Rattle.trees.proofs.Toward.{toward_goal, toward_done, toward_dropped, toward_wrong, toward_false, toward_solved, counts_node, counts_tries}
 use Rattle.graphs.specs.Cells.{blank}
@@ -28,36 +28,22 @@ use Rattle.frames.specs.declared.Frame.{Frame}
 use Rattle.frames.specs.declared.Node.{Node}
 use Rattle.frames.specs.Frames.{list_at, Fetched, trodden_after}
 use Rattle.frames.specs.Memory.{Memory, back, rolled, Grown}
-use Rattle.frames.specs.Goals.{Nth, Lists}
+use Rattle.frames.specs.Goals.{First, Lists}
 use Rattle.frames.specs.Owed.{work_from, Lower, Owing, Owes, Kept, Tallied, Underway, Entering, Arrives, one_more}
 use Rattle.frames.specs.Steps.{with_cells, next_clause, dropped, Told, TakenUp, Resolved}
+use Rattle.frames.proofs.Arrivals.{better_none}
 use Rattle.frames.proofs.Memories.{grown_same, grown_trans, back_grown, rolled_grown, stands_grown, lists_grown, owes_set, lower_more}
 
-false_premise : {A : Type 0} (x y : Option A) (a : A) → x ≡ None → x ≡ Some a → ⊥
-false_premise x y a p q = let z : ◌≡◌ {A = ℕ} 0 1 = cc in omega arith
-
--- the n-th that waits is one
-same_waiting : (ws : List Waiting) (n : ℕ) (v w : Waiting) → Nth ws n v → Nth ws n w → v ≡ w
-same_waiting ws n v w a b =
-    let s = a.some in let l = a.within in
-    sym a.is ∙ (get_or_default ws (n - 1) v w (omega arith) ∙ b.is)
-
-better_none : (o : option.Option (List ℕ)) → better o option.none ≡ o
-better_none option.none = refl
-better_none (option.some p) = refl
-
-or_false : (b : Bool) → (b || false) ≡ b
-or_false true = refl
-or_false false = refl
-
-and_true : (b : Bool) → (b && true) ≡ b
-and_true true = refl
-and_true false = refl
+-- the first of a list is one
+same_waiting : (ws : List Waiting) (list : Option ℕ) (v w : Waiting) → First ws list v → First ws list w → v ≡ w
+same_waiting ws list v w a b =
+    let one : a.place ≡ b.place = cc (a.some, b.some) in
+    sym a.is ∙ (get_or_default ws a.place v w a.within ∙ (ap (λ p. get_or ws p w) one ∙ b.is))
 
 tallied_more : (t : Tally) (best : List ℕ) (a : Summary) → Tallied t best a → Tallied (one_more t) best (a ⊕ tick)
 tallied_more t best a h =
     let s = h.steps in
-    record { steps = omega arith; uses = subst (Kept t.leaves.uses best) (sym (better_none a.best)) h.uses; cut = or_false a.any_cut ∙ h.cut; wrong = and_true a.all_wrong ∙ h.wrong }
+    record { steps = omega arith; uses = subst (Kept t.leaves.uses best) (sym (better_none a.best)) h.uses; cut = or-false a.any_cut ∙ h.cut; wrong = and-true a.all_wrong ∙ h.wrong }
 
 module _ (home : Memory) (P : Program) (kind : Signature) (limit : ℕ) (whole : Summary) (lists : ℕ → ℕ → List (List Cell)) (spells : Spells P lists) where
   -- a frame at its clause number i has the clauses from i on to try
@@ -69,7 +55,7 @@ module _ (home : Memory) (P : Program) (kind : Signature) (limit : ℕ) (whole :
   module _ (m : Memory) (f : Frame) (fs : List Frame) (w₀ : Work) (ws : List Work) (trodden best : List ℕ) (t : Tally) (a : Summary)
       (owing : Owing home P kind limit trodden m f w₀) (low : Lower f.node.step fs) (owes : Owes home P kind limit trodden m fs ws) (tallied : Tallied t best a)
       (toward : Toward P kind limit whole a (w₀ ∷ ws))
-      (w : Waiting) (nth : Nth m.waiting f.node.goals w) where
+      (w : Waiting) (first-goal : First m.waiting f.node.goals w) where
     abbrev k : ℕ
     k = f.node.step
 
@@ -92,7 +78,7 @@ module _ (home : Memory) (P : Program) (kind : Signature) (limit : ℕ) (whole :
     flag = f.node.flag
 
     same_goal : owing.reached.goals.0 ≡ w
-    same_goal = same_waiting m.waiting f.node.goals owing.reached.goals.0 w owing.reached.goals.1 nth
+    same_goal = same_waiting m.waiting f.node.goals owing.reached.goals.0 w owing.reached.goals.1 first-goal
 
     goal_stands : Stands m.cells w.goal (fun g.symbol g.arguments)
     goal_stands = subst (λ x. Stands m.cells x.goal (fun g.symbol g.arguments)) same_goal owing.reached.goals.2
@@ -175,7 +161,7 @@ module _ (home : Memory) (P : Program) (kind : Signature) (limit : ℕ) (whole :
           since = owing.since;
           owes = owes_next m (grown_same m);
           lower = lower_next m (grown_same m) (k + 1) refl;
-          reached = record { standing = owing.reached.standing; goals = rest_listed; path = λ e. absurd (let z : ◌≡◌ {A = ℕ} 0 1 = cc in omega arith) };
+          reached = record { standing = owing.reached.standing; goals = rest_listed; path = λ e. absurd (cc) };
           tallied = tallied_more t best a tallied;
           toward = subst (λ n. Toward P kind limit whole (a ⊕ tick) (node r false gs E n ∷ (next m (grown_same m) ∷ ws))) (sym (add-one k)) t₃;
         })
@@ -251,7 +237,7 @@ module _ (home : Memory) (P : Program) (kind : Signature) (limit : ℕ) (whole :
             since = owing.since;
             owes = owes_set_next m (grown_same m);
             lower = lower_next m (grown_same m) (k + 1) refl;
-            reached = record { standing = owing.reached.standing; goals = rest_listed; path = λ e. absurd (let z : ◌≡◌ {A = ℕ} 0 1 = cc in omega arith) };
+            reached = record { standing = owing.reached.standing; goals = rest_listed; path = λ e. absurd (cc) };
             tallied = tallied_more t best a tallied;
             toward = subst (λ n. Toward P kind limit whole (a ⊕ tick) (node (r ++ (i ∷ [])) false gs E n ∷ (next m (grown_same m) ∷ ws))) (sym (add-one k)) t₁;
           }

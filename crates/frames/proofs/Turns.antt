@@ -1,5 +1,5 @@
 -- One turn: the newest frame goes back, and its next clause is a step.
-use Rattle.std.proofs.Common.{◌≡◌, ℕ, ◌-◌, ◌<◌, ◌≤◌, Bool, true, false, not, ◌⊎◌, List, [], ◌∷◌, length, get_or, is_some, Some, None, Option, sym, refl, ap, ◌∙◌, subst, inl, inr, arith}
+use Rattle.std.proofs.Common.{◌≡◌, ℕ, ◌<◌, ◌≤◌, Bool, true, false, not, ◌⊎◌, List, [], ◌∷◌, length, is_some, Some, None, Option, sym, refl, ap, ◌∙◌, subst, inl, inr, arith}
 use Rattle.terms.specs.declared.Cell.{Cell}
 use Rattle.typing.specs.Terms.{Signature}
 use Rattle.trees.specs.Tree.{Program}
@@ -13,20 +13,16 @@ use Rattle.frames.specs.declared.Frame.{Frame}
 use Rattle.frames.specs.declared.Node.{Node}
 use Rattle.frames.specs.Frames.{list_at, Fetched, trodden_after}
 use Rattle.frames.specs.Memory.{Memory, back, Grown}
-use Rattle.frames.specs.Goals.{Nth}
+use Rattle.frames.specs.Goals.{First}
 use Rattle.trees.proofs.Toward.{toward_end}
 use Rattle.frames.specs.Owed.{Owing, Owes, Tallied, Underway, Arrives, one_more}
 use Rattle.frames.specs.Steps.{with_cells, next_clause, Resolved}
 use Rattle.frames.proofs.Memories.{memory_path}
 use Rattle.frames.proofs.Steps.{finished, counted, stepped, loaded_since}
 
--- the n-th that waits, by the length that a vector tells
-pub nth_of : (ws : List Waiting) (k n : ℕ) (w : Waiting) → k ≡ length ws → (1 ≤ n) × (n ≤ k) × (get_or ws (n - 1) w ≡ w) → Nth ws n w
-nth_of ws k n w e h = let a = h.0 in let b = h.1 in record { some = omega arith; within = omega arith; is = h.2 }
-
 pub none_of : (o : Option ℕ) → is_some o ≡ false → o ≡ None
 none_of None e = refl
-none_of (Some n) e = absurd (let z : ◌≡◌ {A = ℕ} 0 1 = cc in omega arith)
+none_of (Some n) e = absurd (cc)
 
 -- going back leaves the branch and the shortest path as they are
 pub same_branch : (home : Memory) (P : Program) (kind : Signature) (limit : ℕ) (whole : Summary) (m : Memory) (trodden trodden' best best' : List ℕ) (fs : List Frame) (t : Tally) → trodden' ≡ trodden → best' ≡ best
@@ -37,7 +33,7 @@ same_branch home P kind limit whole m trodden trodden' best best' fs t p q on =
 -- unless the clause is the first, there is one
 pub first_of : (o : Option ℕ) (b : Bool) (i : ℕ) → is_some o ≡ not b → (((b ≡ true) × (i ≤ 0)) ⊎ (b ≡ false)) → o ≡ None → i ≡ 0
 first_of o b i e (inl h) n = let l = h.1 in omega arith
-first_of o b i e (inr h) n = absurd (let x : false ≡ true = sym (ap is_some n) ∙ (e ∙ ap not h) in let z : ◌≡◌ {A = ℕ} 0 1 = cc in omega arith)
+first_of o b i e (inr h) n = absurd (let x : false ≡ true = sym (ap is_some n) ∙ (e ∙ ap not h) in cc)
 
 module _ (home : Memory) (P : Program) (kind : Signature) (limit : ℕ) (whole : Summary) (m₀ : Memory) (trodden best : List ℕ) (f : Frame) (fs : List Frame) (t : Tally)
     (on : Underway home P kind limit whole m₀ trodden best (f ∷ fs) t) (m : Memory) (gone : m ≡ back m₀ f) where
@@ -50,11 +46,7 @@ module _ (home : Memory) (P : Program) (kind : Signature) (limit : ℕ) (whole :
   toward : Toward P kind limit whole on.sum (on.owes.0 ∷ on.owes.1)
   toward = subst (Toward P kind limit whole on.sum) on.owes.2 on.toward
 
-  -- the frame's first goal waits
-  pub some_goal : (0 < f.node.goals) × (f.node.goals ≤ length m.waiting)
-  some_goal = let n = owing.reached.goals.1 in (n.some, n.within)
-
-  module _ (lists : ℕ → ℕ → List (List Cell)) (spells : Spells P lists) (w : Waiting) (nth : Nth m.waiting f.node.goals w) (cs : List Cell) (head : Option ℕ)
+  module _ (lists : ℕ → ℕ → List (List Cell)) (spells : Spells P lists) (w : Waiting) (nth : First m.waiting f.node.goals w) (cs : List Cell) (head : Option ℕ)
       (fetched : Fetched (list_at lists m.cells w.goal) f.clause f.node.step m.cells cs head) where
     -- all its clauses have been tried
     pub turn_done : head ≡ None → 0 < f.clause → (m' : Memory) → m' ≡ with_cells m cs → Underway home P kind limit whole m' trodden best fs t

@@ -1,5 +1,6 @@
 -- When a question is refused before its tree is walked, and what its answer tells of the tree and of proofs.
 use Rattle.std.specs.Prelude.{◌≡◌, ℕ, ◌<◌, ◌≤◌, Bool, true, cond, ◌||◌, List, ◌++◌, length, take, drop, is_some, Some, None, Ok, Err, Option, Result, nat_lt}
+use Rattle.std.specs.Result.{result_and, result_err}
 use Rattle.terms.specs.declared.Cell.{Cell}
 use Rattle.typing.specs.Terms.{Subst, Eqs, Signature, Unifies}
 use Rattle.trees.specs.Terms.{EqsBelow}
@@ -15,18 +16,29 @@ use Rattle.verdicts.specs.declared.Answer.{Answer}
 use Rattle.verdicts.specs.declared.Verdict.{Verdict}
 use Rattle.verdicts.specs.declared.Verdict.TheVariants.{Holds, Fails, Erroneous, Unsettled}
 
--- over 32 cells, over 8 goals; then a path slice below 32
-abbrev pub judged_size : ℕ → ℕ → ℕ → Option Refusal
-judged_size cells goals path = cond (nat_lt 32 cells || nat_lt 8 goals) (Some TooLarge) (cond (nat_lt path 32) (Some PathShort) None)
+-- too little scratch
+abbrev pub judged_scratch : (pairs frames : ℕ) → Result (Unit {0}) Refusal
+judged_scratch pairs frames = cond (nat_lt pairs 12864 || nat_lt frames 512) (Err ScratchShort) (Ok tt)
 
-abbrev pub judged_list : Option ℕ → Bool → ℕ → ℕ → Option Refusal
-judged_list None low cells path = Some NoGoalList
-judged_list (Some n) low cells path = cond low (judged_size cells n path) (Some NoGoalList)
+-- over 32 cells, over 8 goals
+abbrev pub judged_size : (cells goals : ℕ) → Result (Unit {0}) Refusal
+judged_size cells goals = cond (nat_lt 32 cells || nat_lt 8 goals) (Err TooLarge) (Ok tt)
 
--- too little scratch; no goal list, or a variable above 31; too large; a path slice that is too short
+abbrev pub judged_list : Option ℕ → Bool → (cells : ℕ) → Result (Unit {0}) Refusal
+judged_list None low cells = Err NoGoalList
+judged_list (Some n) low cells = cond low (judged_size cells n) (Err NoGoalList)
+
+-- no goal list, or a variable above 31; too large
+abbrev pub judged_goals : List Cell → Result (Unit {0}) Refusal
+judged_goals question = judged_list (goals 0 0 question) (all_low question) (length question)
+
+-- a path slice that is too short
+abbrev pub judged_path : ℕ → Result (Unit {0}) Refusal
+judged_path path = cond (nat_lt path 32) (Err PathShort) (Ok tt)
+
+-- the first of these that refuses: the scratch, the question, the path slice
 abbrev pub judged : List Cell → (pairs frames path : ℕ) → Option Refusal
-judged question pairs frames path =
-    cond (nat_lt pairs 12864 || nat_lt frames 512) (Some ScratchShort) (judged_list (goals 0 0 question) (all_low question) (length question) path)
+judged question pairs frames path = result_err (result_and (judged_scratch pairs frames) (result_and (judged_goals question) (judged_path path)))
 
 -- a goal list of at most 32 cells over the variables 0 to 31, and scratch enough
 pub record Sized (question : List Cell) (pairs frames : ℕ) : Type 0 where

@@ -1,5 +1,6 @@
 -- The frames of a search: what each goes back to leaves room for the steps to come, and there is at most one frame to a step.
 use Rattle.std.specs.Prelude.{◌≡◌, ℕ, ◌+◌, ◌-◌, ◌*◌, ◌<◌, ◌≤◌, cond, List, [], ◌∷◌, ◌++◌, length, get_or, Some, None, Option, nat_lt, slice_index_or, slice_set}
+use Rattle.std.specs.Coded.{le_prop}
 use Rattle.terms.specs.declared.Cell.{Cell}
 use Rattle.clauses.specs.Clauses.{renamed}
 use Rattle.graphs.specs.Cells.{blank}
@@ -35,6 +36,11 @@ Roomy f = (f.node.step < 32) × (f.bindings.cells ≤ cells_at f.node.step) × (
 abbrev pub Rising : List Frame → Type 0
 Rising [] = Unit {0}
 Rising (f ∷ fs) = Roomy f × (length fs ≤ f.node.step) × Rising fs
+
+-- a fact with at most one proof, as a ghost field asks
+pub rising_prop : (fs : List Frame) → IsProp (Rising fs)
+rising_prop [] p q = λ i. tt
+rising_prop (f ∷ fs) p q = λ i. ((le_prop p.0.0 q.0.0 i, le_prop p.0.1 q.0.1 i, le_prop p.0.2 q.0.2 i), le_prop p.1 q.1 i, rising_prop fs p.2 q.2 i)
 
 -- what is left of a search at most: two turns for each step that is allowed still, and one for each frame
 abbrev pub turns : (allowance steps frames : ℕ) → ℕ

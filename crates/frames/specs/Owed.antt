@@ -11,7 +11,7 @@ use Rattle.unification.specs.Standing.{Standing}
 use Rattle.verdicts.specs.declared.ending.Tally.{Tally}
 use Rattle.verdicts.specs.declared.ending.Leaves.{Leaves}
 use Rattle.verdicts.specs.declared.ending.Ending.{Ending}
-use Rattle.verdicts.specs.declared.ending.Ending.TheVariants.{Success, Untrue, Wrong, Cut, On}
+use Rattle.verdicts.specs.declared.ending.Ending.TheVariants.{Success, Untrue, Wrong, Cut}
 use Rattle.verdicts.specs.Leaves.{shorter, noted}
 use Rattle.frames.specs.declared.Node.{Node}
 use Rattle.frames.specs.declared.Frame.{Frame}
@@ -99,22 +99,19 @@ abbrev pub frame_at : Memory → Node → Frame
 frame_at m n = record { node = n; clause = 0; bindings = record { cells = length m.cells; trail = length m.trail }; waiting = length m.waiting }
 
 -- a node that goes on has a frame
-abbrev pub frames_after : Ending → Frame → List Frame → List Frame
-frames_after On f fs = f ∷ fs
-frames_after Success f fs = fs
-frames_after Untrue f fs = fs
-frames_after Wrong f fs = fs
-frames_after Cut f fs = fs
+abbrev pub frames_after : Option Ending → Frame → List Frame → List Frame
+frames_after None f fs = f ∷ fs
+frames_after (Some end) f fs = fs
 
 -- a success that is shorter than any before it is kept
-abbrev pub best_after : Ending → Leaves → ℕ → List ℕ → List ℕ → List ℕ
-best_after Success l k trodden best = cond (shorter l.uses k) trodden best
-best_after On l k trodden best = best
-best_after Untrue l k trodden best = best
-best_after Wrong l k trodden best = best
-best_after Cut l k trodden best = best
+abbrev pub best_after : Option Ending → Leaves → ℕ → List ℕ → List ℕ → List ℕ
+best_after (Some Success) l k trodden best = cond (shorter l.uses k) trodden best
+best_after (Some Untrue) l k trodden best = best
+best_after (Some Wrong) l k trodden best = best
+best_after (Some Cut) l k trodden best = best
+best_after None l k trodden best = best
 
-abbrev pub tally_after : Ending → Tally → ℕ → Tally
+abbrev pub tally_after : Option Ending → Tally → ℕ → Tally
 tally_after end t k = record { leaves = noted t.leaves end k; steps = t.steps }
 
 -- one step more
@@ -122,5 +119,5 @@ abbrev pub one_more : Tally → Tally
 one_more t = record { leaves = t.leaves; steps = t.steps + 1 }
 
 -- the root of a tree
-abbrev pub root_of : ℕ → Node
-root_of goals = record { flag = true; goals = goals; step = 0 }
+abbrev pub root_of : Option ℕ → Node
+root_of goals = record { goals = goals; flag = true; step = 0 }

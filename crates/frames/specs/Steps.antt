@@ -26,7 +26,7 @@ next_clause f = record { node = f.node; clause = f.clause + 1; bindings = f.bind
 
 -- the node after a goal is dropped
 abbrev pub dropped : Frame → Waiting → Node
-dropped f w = record { flag = false; goals = w.rest; step = f.node.step + 1 }
+dropped f w = record { goals = w.rest; flag = false; step = f.node.step + 1 }
 
 -- the outcome of the terms at two places, whatever stood before
 abbrev pub Told : Signature → Memory → ℕ → ℕ → Outcome → Type 0

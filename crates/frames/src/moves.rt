@@ -1,5 +1,5 @@
 // The small decisions of a search, each by itself.
-ghost use Rattle.std.specs.Prelude.{◌≡◌, ◌+◌, ◌*◌, ◌<◌, nat_le};
+ghost use Rattle.std.specs.Prelude.{◌≡◌, ◌+◌, ◌*◌, ◌<◌, ◌^◌, nat_le};
 ghost use Rattle.frames.specs.Owed.{one_more, root_of};
 ghost use Rattle.frames.specs.Steps.{next_clause, dropped};
 
@@ -7,14 +7,41 @@ use crate::{Frame, Node, Waiting};
 use verdicts::ending::Tally;
 use verdicts::settings::Settings;
 
-// The root of a question's tree.
-pub fn root(goals: usize) -> Node
-    ensures { result ≡ root_of goals }
-{
-    Node {
-        flag: true,
-        goals,
-        step: 0,
+impl Node {
+    // The root of a question's tree.
+    pub fn root(goals: Option<usize>) -> Node
+        ensures { result ≡ root_of goals }
+    {
+        Node {
+            goals,
+            flag: true,
+            step: 0,
+        }
+    }
+}
+
+impl Frame {
+    // The node after a goal is dropped: the other goals are left, and the flag is false.
+    pub fn after_drop(self, goal: Waiting) -> Node
+        requires { self.node.step + 1 < 2 ^ 8 }
+        ensures { result ≡ dropped self goal }
+    {
+        Node {
+            goals: goal.rest,
+            flag: false,
+            step: self.node.step + 1,
+        }
+    }
+
+    // The frame that goes on with the next clause.
+    pub fn next_clause(self) -> Frame
+        requires { self.clause + 1 < 2 ^ 64 }
+        ensures { result ≡ next_clause self }
+    {
+        Frame {
+            clause: self.clause + 1,
+            ..self
+        }
     }
 }
 
@@ -23,31 +50,6 @@ pub fn base_of(step: u8) -> u32
     ensures { result ≡ 32 + 32 * step }
 {
     32 + 32 * step as u32
-}
-
-// The node after a goal is dropped: the other goals are left, and the flag is false.
-pub fn after_drop(frame: Frame, goal: Waiting) -> Node
-    requires { frame.node.step < 32 }
-    ensures { result ≡ dropped frame goal }
-{
-    Node {
-        flag: false,
-        goals: goal.rest,
-        step: frame.node.step + 1,
-    }
-}
-
-// The frame that goes on with the next clause.
-pub fn next_clause(frame: Frame) -> Frame
-    requires { frame.clause < 65536 }
-    ensures { result ≡ next_clause frame }
-{
-    Frame {
-        node: frame.node,
-        clause: frame.clause + 1,
-        bindings: frame.bindings,
-        waiting: frame.waiting,
-    }
 }
 
 // Whether no step more is allowed.
@@ -59,11 +61,11 @@ pub fn is_spent(settings: Settings, tally: Tally) -> bool
 
 // One step more.
 pub fn one_more(tally: Tally) -> Tally
-    requires { tally.steps < 1000000 }
+    requires { tally.steps + 1 < 2 ^ 32 }
     ensures { result ≡ one_more tally }
 {
     Tally {
-        leaves: tally.leaves,
         steps: tally.steps + 1,
+        ..tally
     }
 }

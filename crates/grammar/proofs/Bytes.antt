@@ -2,11 +2,13 @@
 use Rattle.std.proofs.Common.{◌≡◌, ℕ, zero, suc, ◌+◌, ◌-◌, ◌<◌, ◌≤◌, min, Bool, true, false, List, [], ◌∷◌, ◌++◌, length, get_or, take, drop, Ok, Result, sym, refl, ap, ◌∙◌, subst, inl, inr, not-suc-le-zero, arith}
 use Rattle.std.proofs.lemmas.List.{get_or-take, get_or-drop, take-take, drop-take, length-take, length-drop, length-take-le, length_push, get_or_append_left, get_or_push}
 use Rattle.std.proofs.lemmas.Bool.{cases_lt, both_ways}
+use Rattle.lexis.specs.declared.class.Class.{Class}
+use Rattle.lexis.specs.declared.class.Class.TheVariants.{Other, Blank, Digit, Lower, Upper, Mark, Visible}
 use Rattle.lexis.specs.Classes.{class_of}
-use Rattle.lexis.specs.Runs.{is_hex, is_quoted, is_word}
+use Rattle.lexis.specs.Runs.{is_digit, is_hex, is_quoted, is_word}
 use Rattle.lexis.specs.Tokens.{token_at}
 use Rattle.lexis.specs.Worth.{word_of}
-use Rattle.lexis.specs.Spelt.{is_digit, All, Spelt, BlanksTo, NoneAfter, Longest}
+use Rattle.lexis.specs.Spelt.{All, Spelt, BlanksTo, NoneAfter, Longest}
 use Rattle.lexis.specs.Spelt.All.{none, more}
 use Rattle.lexis.specs.Spelt.Spelt.{name, variable, digits, minus, float, quotes, opening, closing, comma, dot, neck, query}
 use Rattle.lexis.specs.Spelt.Longest.{stands, ends, refused}
@@ -60,8 +62,17 @@ all_at p w (suc i) (more {bs = bs} e a) h = all_at p bs i a (omega arith)
 not_among : (p : ℕ → Bool) (w : List ℕ) (i b : ℕ) → All p w → i < length w → get_or w i 0 ≡ b → p b ≡ false → ⊥
 not_among p w i b a h e n = both_ways (p b) n (ap p (sym e) ∙ all_at p w i a h)
 
-apart : (b c k : ℕ) → class_of b ≡ c → b ≡ k → (class_of k ≡ c → ⊥) → ⊥
-apart b c k e h n = n (ap class_of (sym h) ∙ e)
+abbrev rank : Class → ℕ
+rank Other = 0
+rank Blank = 1
+rank Digit = 2
+rank Lower = 3
+rank Upper = 4
+rank Mark = 5
+rank Visible = 6
+
+apart : (b : ℕ) (c : Class) (k : ℕ) → class_of b ≡ c → b ≡ k → (rank (class_of k) ≡ rank c → ⊥) → ⊥
+apart b c k e h n = n (ap rank (ap class_of (sym h) ∙ e))
 
 -- bytes in quotes
 pub record Quotes (w : List ℕ) : Type 0 where
@@ -72,14 +83,14 @@ pub record Quotes (w : List ℕ) : Type 0 where
 -- of the tokens only strings have a dot before their last byte
 dot_inside : (k : Kind) (w : List ℕ) (i : ℕ) → Spelt k w → suc i < length w → get_or w i 0 ≡ 46 → Quotes w
 unfolding class_of
-dot_inside k w zero (name {b = b} c a) h e = absurd (apart b 3 46 c e (λ z. omega arith))
+dot_inside k w zero (name {b = b} c a) h e = absurd (apart b Lower 46 c e (λ z. omega arith))
 dot_inside k w (suc i) (name {w = v} c a) h e = absurd (not_among is_word v i 46 a (omega arith) e refl)
-dot_inside k w zero (variable {b = b} c a) h e = absurd (apart b 4 46 c e (λ z. omega arith))
+dot_inside k w zero (variable {b = b} c a) h e = absurd (apart b Upper 46 c e (λ z. omega arith))
 dot_inside k w (suc i) (variable {w = v} c a) h e = absurd (not_among is_word v i 46 a (omega arith) e refl)
-dot_inside k w zero (digits {b = b} c a) h e = absurd (apart b 2 46 c e (λ z. omega arith))
+dot_inside k w zero (digits {b = b} c a) h e = absurd (apart b Digit 46 c e (λ z. omega arith))
 dot_inside k w (suc i) (digits {w = v} c a) h e = absurd (not_among is_digit v i 46 a (omega arith) e refl)
 dot_inside k w zero (minus c a) h e = absurd (omega arith)
-dot_inside k w (suc zero) (minus {b = b} c a) h e = absurd (apart b 2 46 c e (λ z. omega arith))
+dot_inside k w (suc zero) (minus {b = b} c a) h e = absurd (apart b Digit 46 c e (λ z. omega arith))
 dot_inside k w (suc (suc i)) (minus {w = v} c a) h e = absurd (not_among is_digit v i 46 a (omega arith) e refl)
 dot_inside k w zero (float n a) h e = absurd (omega arith)
 dot_inside k w (suc zero) (float n a) h e = absurd (omega arith)
@@ -97,9 +108,9 @@ dot_inside k w (suc i) query h e = absurd (omega arith)
 -- only strings begin with a quote
 quote_first : (k : Kind) (w : List ℕ) → Spelt k w → get_or w 0 0 ≡ 34 → Quotes w
 unfolding class_of
-quote_first k w (name {b = b} c a) e = absurd (apart b 3 34 c e (λ z. omega arith))
-quote_first k w (variable {b = b} c a) e = absurd (apart b 4 34 c e (λ z. omega arith))
-quote_first k w (digits {b = b} c a) e = absurd (apart b 2 34 c e (λ z. omega arith))
+quote_first k w (name {b = b} c a) e = absurd (apart b Lower 34 c e (λ z. omega arith))
+quote_first k w (variable {b = b} c a) e = absurd (apart b Upper 34 c e (λ z. omega arith))
+quote_first k w (digits {b = b} c a) e = absurd (apart b Digit 34 c e (λ z. omega arith))
 quote_first k w (minus c a) e = absurd (omega arith)
 quote_first k w (float n a) e = absurd (omega arith)
 quote_first k w (quotes {w = v} a) e = record { inner = v; is = refl; clean = a }

@@ -11,7 +11,7 @@ use Rattle.lexis.specs.Tokens.{token_at, start_at}
 use Rattle.lexis.specs.declared.token.Token.{Token}
 use Rattle.lexis.specs.declared.token.Kind.{Kind}
 use Rattle.lexis.specs.declared.token.Kind.TheVariants.{Name, Variable, Integer, Float, Text, Open, Close, Comma, Dot, Neck, Query, End}
-use Rattle.names.specs.declared.Span.{Span}
+use Rattle.lexis.specs.declared.token.Span.{Span}
 use Rattle.names.specs.Places.{place_of}
 use Rattle.draft.specs.declared.grammar.Due.{Due}
 use Rattle.draft.specs.declared.grammar.Due.TheVariants.{Head, Goal, NameEnd, TermEnd, Nothing}

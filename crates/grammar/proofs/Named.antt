@@ -2,7 +2,7 @@
 use Rattle.std.proofs.Common.{◌≡◌, ℕ, List, [], ◌∷◌, ◌++◌, length, refl, ap, arith}
 use Rattle.terms.specs.declared.Cell.{Cell}
 use Rattle.lexis.specs.declared.token.Token.{Token}
-use Rattle.names.specs.declared.Span.{Span}
+use Rattle.lexis.specs.declared.token.Span.{Span}
 use Rattle.names.specs.Spans.{word_at}
 use Rattle.grammar.specs.Grammar.{Tokens, name_as, named}
 use Rattle.grammar.specs.Grammar.Tokens.{stop, next}

@@ -4,14 +4,15 @@ use Rattle.std.proofs.lemmas.List.{append-nil, append_assoc, length_push}
 use Rattle.std.proofs.lemmas.Bool.{cond-true, cond-false, cases_Bool, lt-ltb, le-ltb}
 use Rattle.std.proofs.lemmas.Slice.Eq.{bytes_eq-Decides}
 use Rattle.terms.specs.declared.Cell.{Cell}
-use Rattle.names.specs.declared.Span.{Span}
+use Rattle.lexis.specs.declared.token.Span.{Span}
 use Rattle.names.specs.Places.{place_of, with_word}
 use Rattle.names.specs.Spans.{word_at}
 use Rattle.draft.specs.Numbering.{is_named, numbered, noted, numbered_all, words_after}
 use Rattle.draft.specs.Sketch.{Sketch, ReadsClause}
 use Rattle.grammar.specs.Grammar.{name_as, named}
 use Rattle.grammar.specs.Laws.{Numbered}
-use Rattle.grammar.proofs.Variables.{place_kept, place_same, either}
+use Rattle.names.proofs.Finding.{place_left}
+use Rattle.grammar.proofs.Variables.{place_same, either}
 use Rattle.grammar.proofs.Clauses.{clause_written}
 
 record Extends (ws vs : List (List ℕ)) : Type 0 where
@@ -52,11 +53,11 @@ place_after w ws vs x =
     elim (either w ws) [
       | inl h ↦
           let e : vs ≡ ws ++ x.rest = x.is ∙ ap (λ y. y ++ x.rest) (cond-true (ltb (place_of w ws) (length ws)) ws (ws ++ w ∷ []) (lt-ltb (place_of w ws) (length ws) h)) in
-          sym (ap (place_of w) e ∙ place_kept w ws x.rest h)
+          sym (ap (place_of w) e ∙ place_left w ws x.rest h)
       | inr h ↦
           let e : vs ≡ (ws ++ w ∷ []) ++ x.rest = x.is ∙ ap (λ y. y ++ x.rest) (cond-false (ltb (place_of w ws) (length ws)) ws (ws ++ w ∷ []) (le-ltb (place_of w ws) (length ws) (omega arith))) in
           let p = place_same w w ws h ((bytes_eq-Decides w w).1 refl) in
-          h ∙ (sym p ∙ sym (ap (place_of w) e ∙ place_kept w (ws ++ w ∷ []) x.rest (omega (arith, length_push ws w))))
+          h ∙ (sym p ∙ sym (ap (place_of w) e ∙ place_left w (ws ++ w ∷ []) x.rest (omega (arith, length_push ws w))))
     ]
 
 numbered_is : (w : List ℕ) (ws vs : List (List ℕ)) (c : Cell) → Extends (noted w ws c) vs → numbered w ws c ≡ name_as (λ x. place_of x vs) w c

@@ -10,7 +10,7 @@ use Rattle.lexis.specs.Worth.{word_of, worth_of, value_of, sized}
 use Rattle.lexis.specs.declared.token.Token.{Token}
 use Rattle.lexis.specs.declared.token.Kind.{Kind}
 use Rattle.lexis.specs.declared.token.Kind.TheVariants.{Name, Variable, Integer, Float, Text, Open, Close, Comma, Dot, Neck, Query, End}
-use Rattle.names.specs.declared.Span.{Span}
+use Rattle.lexis.specs.declared.token.Span.{Span}
 use Rattle.draft.specs.declared.Bracket.{Bracket}
 use Rattle.draft.specs.declared.grammar.Due.{Due}
 use Rattle.draft.specs.declared.grammar.Due.TheVariants.{Argument, NameEnd, TermEnd, Nothing}

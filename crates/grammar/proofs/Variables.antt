@@ -1,13 +1,14 @@
 -- The number of a variable's word, and what finds it among cells with their words.
-use Rattle.std.proofs.Common.{◌≡◌, ℕ, suc, ◌+◌, ◌<◌, ◌≤◌, true, false, cond, ◌&&◌, eqb, ltb, leb, ◌⊎◌, List, [], ◌∷◌, ◌++◌, length, sym, refl, ap, ◌∙◌, subst, inl, inr, not-suc-le-zero, arith}
+use Rattle.std.proofs.Common.{◌≡◌, ℕ, suc, ◌+◌, ◌<◌, true, false, cond, ◌&&◌, eqb, ltb, leb, ◌⊎◌, List, [], ◌∷◌, ◌++◌, length, sym, refl, ap, ◌∙◌, subst, inl, inr, arith}
 use Rattle.std.proofs.lemmas.List.{length_push}
 use Rattle.std.proofs.lemmas.Bool.{cond-true, cond-false, cases_Bool, both_ways, ltb-true, ltb-false, lt-ltb, le-ltb, le-leb, lt-leb}
 use Rattle.std.proofs.lemmas.Slice.Eq.{bytes_eq-Decides}
 use Rattle.std.specs.Str.{bytes_eq}
 use Rattle.terms.specs.declared.Cell.{Cell}
-use Rattle.names.specs.declared.Span.{Span}
+use Rattle.lexis.specs.declared.token.Span.{Span}
 use Rattle.names.specs.Places.{place_of, with_word}
 use Rattle.names.specs.Spans.{word_at}
+use Rattle.names.proofs.Finding.{place_nil, place_here, place_next, place_within, place_left}
 use Rattle.draft.specs.Drafts.{var_cell}
 use Rattle.clauses.specs.Clauses.{vars_after}
 use Rattle.draft.specs.Sketch.{is_variable, same_variable}
@@ -20,32 +21,8 @@ lone = 95 ∷ []
 abbrev pub lookup : List ℕ → List (List ℕ) → ℕ → ℕ
 lookup w ws n = cond (ltb (place_of w ws) (length ws)) (place_of w ws) n
 
-place_cons : (w x : List ℕ) (xs : List (List ℕ)) → place_of w (x ∷ xs) ≡ cond (bytes_eq x w) 0 (suc (place_of w xs))
-unfolding place_of
-place_cons w x xs = refl
-
-place_nil : (w : List ℕ) → place_of w [] ≡ 0
-unfolding place_of
-place_nil w = refl
-
-place_here : (w x : List ℕ) (xs : List (List ℕ)) → bytes_eq x w ≡ true → place_of w (x ∷ xs) ≡ 0
-place_here w x xs e = place_cons w x xs ∙ cond-true (bytes_eq x w) 0 (suc (place_of w xs)) e
-
 place_later : (w x : List ℕ) (xs : List (List ℕ)) → bytes_eq x w ≡ false → place_of w (x ∷ xs) ≡ suc (place_of w xs)
-place_later w x xs e = place_cons w x xs ∙ cond-false (bytes_eq x w) 0 (suc (place_of w xs)) e
-
-pub place_within : (w : List ℕ) (ws : List (List ℕ)) → place_of w ws ≤ length ws
-place_within w [] = omega (arith, place_nil w)
-place_within w (x ∷ xs) =
-    elim (cases_Bool (bytes_eq x w)) [ inl e ↦ omega (arith, place_here w x xs e) | inr e ↦ omega (arith, place_later w x xs e, place_within w xs) ]
-
-pub place_kept : (w : List ℕ) (ws xs : List (List ℕ)) → place_of w ws < length ws → place_of w (ws ++ xs) ≡ place_of w ws
-place_kept w [] xs h = absurd (not-suc-le-zero h)
-place_kept w (x ∷ ws) xs h =
-    elim (cases_Bool (bytes_eq x w)) [
-      | inl e ↦ place_here w x (ws ++ xs) e ∙ sym (place_here w x ws e)
-      | inr e ↦ place_later w x (ws ++ xs) e ∙ (ap suc (place_kept w ws xs (omega (arith, place_later w x ws e))) ∙ sym (place_later w x ws e))
-    ]
+place_later w x xs e = omega (arith, place_next w x xs e)
 
 pub place_same : (w x : List ℕ) (ws : List (List ℕ)) → place_of w ws ≡ length ws → bytes_eq x w ≡ true → place_of w (ws ++ x ∷ []) ≡ length ws
 place_same w x [] h e = place_here w x [] e
@@ -80,7 +57,7 @@ lookup_other : (w x : List ℕ) (ws : List (List ℕ)) (n : ℕ) → bytes_eq x 
 lookup_other w x ws n e =
     elim (either w ws) [
       | inl h ↦
-          let k = place_kept w ws (x ∷ []) h in
+          let k = place_left w ws (x ∷ []) h in
           found w (ws ++ x ∷ []) n (omega (arith, length_push ws x)) ∙ (k ∙ sym (found w ws n h))
       | inr h ↦
           let k = place_past w x ws h e in

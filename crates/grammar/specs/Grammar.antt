@@ -8,7 +8,7 @@ use Rattle.lexis.specs.Tokens.{token_at}
 use Rattle.lexis.specs.Worth.{worth_of}
 use Rattle.lexis.specs.declared.token.Token.{Token}
 use Rattle.lexis.specs.declared.token.Kind.TheVariants.{Name, Variable, Integer, Float, Text, Open, Close, Comma, Dot, Neck}
-use Rattle.names.specs.declared.Span.{Span}
+use Rattle.lexis.specs.declared.token.Span.{Span}
 use Rattle.names.specs.Places.{place_of, with_word}
 use Rattle.names.specs.Spans.{word_at}
 use Rattle.draft.specs.Drafts.{span_of}

@@ -4,8 +4,6 @@
 ghost use Rattle.grammar.specs.Laws.{GrammarLaw};
 
 // What is read as a clause is tokens that are a clause of the grammar, and the cells that were read spell that clause.
-pub fn grammar_stands() -> u8
+pub fn grammar_stands()
     ensures { GrammarLaw }
-{
-    0
-}
+{}

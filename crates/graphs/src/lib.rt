@@ -4,14 +4,14 @@
 ghost use Rattle.graphs.specs.Laws.{Decoding, Growing, GrowingAcyclic, Adding, Starting, StartingAcyclic, Room, Following, Spelling, Joining, Living, GrowingLive};
 
 // Two nodes that are to be equal.
-#[derive(Clone, Copy)]
+#[derive(Clone, Copy, Debug, Default, PartialEq, Eq)]
 pub struct Pair {
     pub left: usize,
     pub right: usize,
 }
 
 // The laws by which callers go on from one equation to the next.
-pub fn laws_stand() -> u8
+pub fn laws_stand()
     ensures decoding { Decoding }
     ensures growing { Growing }
     ensures growing_acyclic { GrowingAcyclic }
@@ -24,6 +24,4 @@ pub fn laws_stand() -> u8
     ensures joining { Joining }
     ensures living { Living }
     ensures growing_live { GrowingLive }
-{
-    0
-}
+{}

@@ -1,30 +1,29 @@
-use Rattle.std.proofs.Common.{◌≡◌, ℕ, suc, ◌+◌, ◌<◌, ◌≤◌, Bool, true, false, cond, List, [], ◌∷◌, length, get_or, drop, refl, ap, ◌∙◌, add-zero, arith}
-use Rattle.std.proofs.lemmas.List.{drop_more, drop_all}
-use Rattle.std.proofs.lemmas.Bool.{cond-true, cond-false}
-use Rattle.lexis.specs.declared.token.Run.{Run}
-use Rattle.lexis.specs.Runs.{front, end_of, belongs}
+-- Where bytes that pass a test end.
+use Rattle.std.proofs.Common.{◌≡◌, ℕ, ◌+◌, ◌≤◌, Bool, true, false, cond, ltb, not, List, [], ◌∷◌, length, drop, Some, None, Option, refl, ap, ◌∙◌, arith}
+use Rattle.std.specs.List.{prefix_len, position_or_len}
+use Rattle.std.specs.Option.{unwrap_or}
+use Rattle.std.proofs.lemmas.List.Sums.{prefix_len-le-length}
+use Rattle.std.proofs.lemmas.Bool.{cond_both, ltb-false}
+use Rattle.lexis.specs.Runs.{end_of}
 
-front_cons : (p : ℕ → Bool) (b : ℕ) (bs : List ℕ) → front p (b ∷ bs) ≡ cond (p b) (suc (front p bs)) 0
-unfolding front
-front_cons p b bs = refl
+twice : (b : Bool) → not (not b) ≡ b
+twice true = refl
+twice false = refl
 
-front_nil : (p : ℕ → Bool) → front p [] ≡ 0
-unfolding front
-front_nil p = refl
+pass_or_stop : (test : ℕ → Bool) (xs : List ℕ) → position_or_len (λ b. not (test b)) xs ≡ prefix_len test xs
+pass_or_stop test [] = refl
+pass_or_stop test (x ∷ xs) = ap (λ b. cond b (1 + position_or_len (λ b. not (test b)) xs) 0) (twice (test x)) ∙ ap (λ n. cond (test x) (1 + n) 0) (pass_or_stop test xs)
 
-pub end_none : (run : Run) (text : List ℕ) (at : ℕ) → length text ≤ at → end_of run text at ≡ at
+place_or : (n l : ℕ) → n ≤ l → unwrap_or (cond (ltb n l) (Some n) None) l ≡ n
+place_or n l h = cond_both (ltb n l) (Some n) None (λ o. unwrap_or o l ≡ n) (λ _. refl) (λ t. omega (arith, ltb-false n l t))
+
+-- the first byte that fails is where they end, and where none fails they end with the text
+pub end_found : (test : ℕ → Bool) (text : List ℕ) (at : ℕ) (r : Option ℕ)
+    → r ≡ cond (ltb (position_or_len (λ b. not (test b)) (drop at text)) (length (drop at text))) (Some (position_or_len (λ b. not (test b)) (drop at text))) None
+    → at + unwrap_or r (length (drop at text)) ≡ end_of test text at
 unfolding end_of
-end_none run text at h = ap (λ xs. at + front (belongs run) xs) (drop_all at text h) ∙ (ap (λ n. at + n) (front_nil (belongs run)) ∙ add-zero at)
-
-pub end_stop : (run : Run) (text : List ℕ) (at d : ℕ) → at < length text → belongs run (get_or text at d) ≡ false → end_of run text at ≡ at
-unfolding end_of
-end_stop run text at d h e =
-    ap (λ xs. at + front (belongs run) xs) (drop_more text at d h)
-    ∙ (ap (λ n. at + n) (front_cons (belongs run) (get_or text at d) (drop (at + 1) text) ∙ cond-false _ _ _ e) ∙ add-zero at)
-
-pub end_more : (run : Run) (text : List ℕ) (at d : ℕ) → at < length text → belongs run (get_or text at d) ≡ true → end_of run text at ≡ end_of run text (at + 1)
-unfolding end_of
-end_more run text at d h e =
-    let n = front (belongs run) (drop (at + 1) text) in
-    ap (λ xs. at + front (belongs run) xs) (drop_more text at d h)
-    ∙ (ap (λ n. at + n) (front_cons (belongs run) (get_or text at d) (drop (at + 1) text) ∙ cond-true _ _ _ e) ∙ omega arith)
+end_found test text at r e =
+    let p = position_or_len (λ b. not (test b)) (drop at text) in
+    let same : p ≡ prefix_len test (drop at text) = pass_or_stop test (drop at text) in
+    ap (λ o. at + unwrap_or o (length (drop at text))) e
+    ∙ ap (λ n. at + n) (place_or p (length (drop at text)) (omega (arith, same, prefix_len-le-length test (drop at text))) ∙ same)

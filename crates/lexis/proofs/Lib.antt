@@ -1,6 +1,7 @@
 mod Table
 mod Ends
 mod Words
+mod Classed
 pub mod Fronts
 pub mod Longest
 pub mod Scans

@@ -8,8 +8,8 @@ use Rattle.lexis.specs.declared.token.Token.{Token}
 use Rattle.lexis.specs.declared.token.Kind.{Kind}
 use Rattle.lexis.specs.declared.token.Kind.TheVariants.{Name, Variable, Integer, Float, Text, Open, Close, Comma, Dot, Neck, Query, End}
 use Rattle.lexis.specs.Classes.{class_of, within}
-use Rattle.lexis.specs.Runs.{is_hex}
-use Rattle.lexis.specs.Spelt.{All, is_digit}
+use Rattle.lexis.specs.Runs.{is_digit, is_hex}
+use Rattle.lexis.specs.Spelt.{All}
 use Rattle.lexis.specs.Spelt.All.{none, more}
 use Rattle.lexis.specs.Numbers.{positional, digit_of, hex_digit_of, Numeral}
 use Rattle.lexis.specs.Worth.{word_of, decimal, positive, negated, integer_of, hex_of, float_of, sized, value_of, worth_of}

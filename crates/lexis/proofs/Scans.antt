@@ -7,20 +7,22 @@ use Rattle.lexis.specs.declared.fault.Cause.TheVariants.{Grammar}
 use Rattle.lexis.specs.declared.token.Token.{Token}
 use Rattle.lexis.specs.declared.token.Kind.{Kind}
 use Rattle.lexis.specs.declared.token.Kind.TheVariants.{End}
-use Rattle.lexis.specs.declared.token.Run.TheVariants.{Blank}
+use Rattle.lexis.specs.declared.class.Class.TheVariants.{Blank}
+use Rattle.std.specs.List.{prefix_len}
+use Rattle.std.proofs.lemmas.List.Sums.{prefix_len-le-length, prefix_len_passes, prefix_len_stops}
 use Rattle.lexis.specs.Classes.{class_of}
-use Rattle.lexis.specs.Runs.{front, belongs}
-use Rattle.lexis.specs.Tokens.{shape_at, start_at, told, token_at}
+use Rattle.lexis.specs.Runs.{is_blank}
+use Rattle.lexis.specs.Tokens.{shape_at, start_at, told, token_at, Placed}
 use Rattle.lexis.specs.Worth.{word_of}
 use Rattle.lexis.specs.Spelt.{Spelt, BlanksTo, NoneAfter, Longest, Only}
 use Rattle.lexis.specs.Spelt.Longest.{stands, ends, refused}
-use Rattle.lexis.proofs.Fronts.{front_within, front_below, front_stop}
+use Rattle.lexis.proofs.Classed as kind
 use Rattle.lexis.proofs.Longest.{Sound, end_is, shape_sound, reach_at, none_longer, none_begins, of_class}
 
 start_within : (text : List ℕ) (at : ℕ) → (min at (length text) ≤ start_at text at) × (start_at text at ≤ length text)
 start_within text at =
     let m = min at (length text) in
-    omega (arith, end_is Blank text m, front_within (belongs Blank) (drop m text), length-drop m text)
+    omega (arith, end_is is_blank text m, prefix_len-le-length is_blank (drop m text), length-drop m text)
 
 -- blanks stand up to the start
 start_blanks : (text : List ℕ) (at : ℕ) → BlanksTo text at (start_at text at)
@@ -28,23 +30,23 @@ start_blanks text at =
     let m = min at (length text) in (
       (start_within text at).0,
       λ i low high.
-          let n : i - m < front (belongs Blank) (drop m text) = omega (arith, end_is Blank text m) in
+          let n : i - m < prefix_len is_blank (drop m text) = omega (arith, end_is is_blank text m) in
           let j : m + (i - m) ≡ i = omega arith in
           let b : get_or (drop m text) (i - m) 0 ≡ get_or text i 0 = get_or-drop m text (i - m) 0 ∙ ap (λ k. get_or text k 0) j in
-          sym (ap class_of b) ∙ eqb-true (class_of (get_or (drop m text) (i - m) 0)) 1 (front_below (belongs Blank) (drop m text) (i - m) n),
+          sym (ap class_of b) ∙ kind.is_blank (class_of (get_or (drop m text) (i - m) 0)) (prefix_len_passes is_blank (drop m text) (i - m) 0 n),
     )
 
 -- and none stands there
-start_stops : (text : List ℕ) (at : ℕ) → start_at text at < length text → class_of (get_or text (start_at text at) 0) ≡ 1 → ⊥
+start_stops : (text : List ℕ) (at : ℕ) → start_at text at < length text → class_of (get_or text (start_at text at) 0) ≡ Blank → ⊥
 start_stops text at l e =
     let m = min at (length text) in
-    let n = front (belongs Blank) (drop m text) in
-    let s : start_at text at ≡ m + n = end_is Blank text m in
+    let n = prefix_len is_blank (drop m text) in
+    let s : start_at text at ≡ m + n = end_is is_blank text m in
     let short : n < length (drop m text) = omega (arith, length-drop m text) in
     let b : get_or (drop m text) n 0 ≡ get_or text (start_at text at) 0 = get_or-drop m text n 0 ∙ ap (λ k. get_or text k 0) (sym s) in
-    eqb-false (class_of (get_or (drop m text) n 0)) 1 (front_stop (belongs Blank) (drop m text) short) (ap class_of b ∙ e)
+    kind.not_blank (class_of (get_or (drop m text) n 0)) (prefix_len_stops is_blank (drop m text) 0 short) (ap class_of b ∙ e)
 
-told_longest : (text : List ℕ) (at s : ℕ) (o : Option (Kind × ℕ)) → shape_at text s ≡ o → BlanksTo text at s → s < length text → (class_of (get_or text s 0) ≡ 1 → ⊥)
+told_longest : (text : List ℕ) (at s : ℕ) (o : Option (Kind × ℕ)) → shape_at text s ≡ o → BlanksTo text at s → s < length text → (class_of (get_or text s 0) ≡ Blank → ⊥)
     → Longest text at (told s o)
 told_longest text at s None h b l n = refused _ b l n (none_begins text s h) refl
 told_longest text at s (Some w) h b l n =
@@ -64,7 +66,7 @@ token_longest text at =
     told_longest text at s (shape_at text s) refl (start_blanks text at) l (start_stops text at l))
 
 -- the first place with no blank is the start
-start_only : (text : List ℕ) (at p : ℕ) → BlanksTo text at p → p < length text → (class_of (get_or text p 0) ≡ 1 → ⊥) → start_at text at ≡ p
+start_only : (text : List ℕ) (at p : ℕ) → BlanksTo text at p → p < length text → (class_of (get_or text p 0) ≡ Blank → ⊥) → start_at text at ≡ p
 start_only text at p b l n =
     elim (cases_order (start_at text at) p) [
       | inl e ↦ e
@@ -80,8 +82,8 @@ tell text at p l e =
     (ne_eqb (start_at text at) (length text) (λ h. omega arith))
     ∙ ap (λ s. told s (shape_at text s)) e
 
-no_blank : (text : List ℕ) (s : ℕ) (w : Kind × ℕ) → shape_at text s ≡ Some w → class_of (get_or text s 0) ≡ 1 → ⊥
-no_blank text s w h e = let z : ◌≡◌ {A = ℕ} 0 1 = cc (h, of_class text s 1 e) in omega arith
+no_blank : (text : List ℕ) (s : ℕ) (w : Kind × ℕ) → shape_at text s ≡ Some w → class_of (get_or text s 0) ≡ Blank → ⊥
+no_blank text s w h e = let z : ◌≡◌ {A = ℕ} 0 1 = cc (h, of_class text s Blank e) in omega arith
 
 same_token : (t : Token) (k : Kind) (s e : ℕ) → t.kind ≡ k → t.start ≡ s → t.end ≡ e → ◌≡◌ {A = Result Token Fault} (Ok t) (Ok (record { kind = k; start = s; end = e }))
 same_token t k s e hk hs he =
@@ -99,7 +101,7 @@ only_token text at t b l h sp none =
     let f : token_at text at ≡ told t.start (Some w) = tell text at t.start (omega arith) (start_only text at t.start b (omega arith) (no_blank text t.start w r.1)) ∙ ap (told t.start) r.1 in
     same_token t w.0 t.start w.1 k refl e ∙ sym f
 
-only_refusal : (text : List ℕ) (at : ℕ) (e : Fault) → BlanksTo text at e.at → e.at < length text → (class_of (get_or text e.at 0) ≡ 1 → ⊥) → NoneAfter text e.at e.at → e.cause ≡ Grammar
+only_refusal : (text : List ℕ) (at : ℕ) (e : Fault) → BlanksTo text at e.at → e.at < length text → (class_of (get_or text e.at 0) ≡ Blank → ⊥) → NoneAfter text e.at e.at → e.cause ≡ Grammar
     → (o : Option (Kind × ℕ)) → shape_at text e.at ≡ o → Err e ≡ token_at text at
 only_refusal text at e b l n none c None h =
     let f = tell text at e.at l (start_only text at e.at b l n) ∙ ap (told e.at) h in
@@ -127,3 +129,9 @@ is_longest text at r e = subst (Longest text at) (sym e) (token_longest text at)
 
 pub is_only : (text : List ℕ) (at : ℕ) (r : Result Token Fault) → r ≡ token_at text at → Only text at r
 is_only text at r e other l = only_longest text at other l ∙ sym e
+
+-- and so stands within the text
+pub longest_placed : (text : List ℕ) (at : ℕ) (r : Result Token Fault) → Longest text at r → Placed (length text) at r
+longest_placed text at r (stands t b l h sp none) = (λ m. omega (arith, b.0), omega arith, h, λ _. l)
+longest_placed text at r (ends t b k s e) = (λ m. omega arith, omega arith, omega arith, λ n. absurd (n k))
+longest_placed text at r (refused e b l n none c) = (λ m. omega (arith, b.0), omega arith)

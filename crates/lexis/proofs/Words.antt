@@ -1,7 +1,8 @@
-use Rattle.std.proofs.Common.{◌≡◌, ℕ, ◌+◌, ◌-◌, ◌*◌, ◌<◌, ◌≤◌, min, List, [], length, get_or, take, drop, sym, refl, ap, ◌∙◌, inl, inr, arith}
+use Rattle.std.proofs.Common.{◌≡◌, ℕ, ◌+◌, ◌-◌, ◌*◌, ◌≤◌, min, List, [], length, take, drop, sym, refl, ap, ◌∙◌, inl, inr, arith}
 use Rattle.std.proofs.lemmas.List.{take_all, drop_all, length-drop}
 use Rattle.std.proofs.lemmas.Bool.{cases_lt}
-use Rattle.std.proofs.lemmas.List.Sums.{fold_more}
+use Rattle.std.specs.List.{fold}
+use Rattle.std.proofs.lemmas.List.Folds.{fold_along}
 use Rattle.lexis.specs.Worth.{word_of, decimal}
 
 take_zero : (n : ℕ) (xs : List ℕ) → n ≡ 0 → take n xs ≡ []
@@ -30,13 +31,9 @@ word_within text start end s e he hs =
       ]
     ]
 
-pub decimal_none : decimal [] ≡ 0
+-- held below 2^32 at each digit, a number is as if it were held there at the end
+pub decimal_held : (ds : List ℕ) → fold (λ n b. min (min (n * 10) 4294967295 + (b - 48)) 4294967295) 0 ds ≡ min (decimal ds) 4294967295
 unfolding decimal
-decimal_none = refl
-
-pub decimal_more : (xs : List ℕ) (i d : ℕ) → i < length xs → decimal (take (i + 1) xs) ≡ decimal (take i xs) * 10 + (get_or xs i d - 48)
-unfolding decimal
-decimal_more xs i d h = fold_more (λ n b. n * 10 + (b - 48)) 0 xs i d h
-
-pub decimal_all : (xs : List ℕ) (i : ℕ) → length xs ≤ i → decimal (take i xs) ≡ decimal xs
-decimal_all xs i h = ap decimal (take_all i xs h)
+decimal_held ds =
+    fold_along (λ n b. min (min (n * 10) 4294967295 + (b - 48)) 4294967295) (λ n b. n * 10 + (b - 48)) (λ n m. n ≡ min m 4294967295)
+    (λ n m b h. omega arith) 0 0 ds refl

@@ -3,5 +3,6 @@ pub mod Faults
 pub mod Numbers
 pub mod Runs
 pub mod Spelt
+pub mod Told
 pub mod Tokens
 pub mod Worth

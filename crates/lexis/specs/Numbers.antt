@@ -3,8 +3,8 @@ use Rattle.std.specs.Prelude.{◌≡◌, ℕ, ◌+◌, ◌-◌, ◌*◌, ◌^◌
 use Rattle.lexis.specs.declared.fault.Fault.{Fault}
 use Rattle.lexis.specs.declared.token.Kind.{Kind}
 use Rattle.lexis.specs.declared.token.Kind.TheVariants.{Name, Variable, Integer, Float, Text, Open, Close, Comma, Dot, Neck, Query, End}
-use Rattle.lexis.specs.Runs.{is_hex}
-use Rattle.lexis.specs.Spelt.{All, is_digit}
+use Rattle.lexis.specs.Runs.{is_digit, is_hex}
+use Rattle.lexis.specs.Spelt.{All}
 use Rattle.lexis.specs.Worth.{positive, negated, sized}
 
 -- a digit counts as many times as the base to the power of how many digits follow it

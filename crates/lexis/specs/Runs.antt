@@ -1,8 +1,17 @@
 -- Bytes that belong together, and how far they go on.
-use Rattle.std.specs.Prelude.{ℕ, suc, ◌+◌, ◌≤◌, Bool, cond, not, ◌&&◌, ◌||◌, List, [], ◌∷◌, drop, ◌==◌}
-use Rattle.lexis.specs.Classes.{class_of, within}
-use Rattle.lexis.specs.declared.token.Run.{Run}
-use Rattle.lexis.specs.declared.token.Run.TheVariants.{Blank, Word, Digit, Hex, Quoted}
+use Rattle.std.specs.Prelude.{◌≡◌, ℕ, ◌+◌, ◌≤◌, Bool, not, ◌&&◌, ◌||◌, List, drop, ◌==◌}
+use Rattle.std.specs.List.{prefix_len}
+use Rattle.lexis.specs.Classes.{class_of, within, blank, digit, of_word}
+
+-- blanks between tokens, digits of base 10 and 16, the bytes of a word, the bytes inside quotes
+abbrev pub is_blank : ℕ → Bool
+is_blank b = blank (class_of b)
+
+abbrev pub is_digit : ℕ → Bool
+is_digit b = digit (class_of b)
+
+abbrev pub is_word : ℕ → Bool
+is_word b = of_word (class_of b)
 
 abbrev pub is_hex : ℕ → Bool
 is_hex b = within 48 57 b || within 97 102 b
@@ -10,24 +19,13 @@ is_hex b = within 48 57 b || within 97 102 b
 abbrev pub is_quoted : ℕ → Bool
 is_quoted b = within 32 126 b && not (b == 34)
 
-abbrev pub is_word : ℕ → Bool
-is_word b = within 2 4 (class_of b)
+-- at a byte the answers are those of the test
+abbrev pub Tests : (ℕ → Bool → Type 0) → (ℕ → Bool) → Type 0
+Tests answers test = (b : ℕ) (r : Bool) → answers b r → r ≡ test b
 
-abbrev pub belongs : Run → ℕ → Bool
-belongs Blank b = class_of b == 1
-belongs Word b = is_word b
-belongs Digit b = class_of b == 2
-belongs Hex b = is_hex b
-belongs Quoted b = is_quoted b
-
--- how many elements at the front of the list pass a test, one after another
-unfoldable pub front : (ℕ → Bool) → List ℕ → ℕ
-front p [] = 0
-front p (b ∷ bs) = cond (p b) (suc (front p bs)) 0
-
--- the place of the first byte from a place on that does not belong
-unfoldable pub end_of : Run → List ℕ → ℕ → ℕ
-end_of run text at = at + front (belongs run) (drop at text)
+-- the place of the first byte from a place on that does not pass the test
+unfoldable pub end_of : (ℕ → Bool) → List ℕ → ℕ → ℕ
+end_of test text at = at + prefix_len test (drop at text)
 
 -- the place is not before another, and not past the length where that is not
 abbrev pub Between : ℕ → ℕ → ℕ → Type 0

@@ -1,16 +1,14 @@
 -- Which bytes are a token, and which token is the longest from a place on: said of the bytes alone.
-use Rattle.std.specs.Prelude.{◌≡◌, ℕ, ◌<◌, ◌≤◌, min, Bool, true, List, [], ◌∷◌, ◌++◌, length, Ok, Err, Result, ◌==◌, ◌≢◌, slice_index}
+use Rattle.std.specs.Prelude.{◌≡◌, ℕ, ◌<◌, ◌≤◌, min, Bool, true, List, [], ◌∷◌, ◌++◌, length, Ok, Err, Result, ◌≢◌, slice_index}
 use Rattle.lexis.specs.Classes.{class_of}
-use Rattle.lexis.specs.Runs.{is_hex, is_quoted, is_word}
+use Rattle.lexis.specs.declared.class.Class.TheVariants.{Blank, Digit, Lower, Upper}
+use Rattle.lexis.specs.Runs.{is_digit, is_hex, is_quoted, is_word}
 use Rattle.lexis.specs.Worth.{word_of}
 use Rattle.lexis.specs.declared.fault.Fault.{Fault}
 use Rattle.lexis.specs.declared.fault.Cause.TheVariants.{Grammar}
 use Rattle.lexis.specs.declared.token.Token.{Token}
 use Rattle.lexis.specs.declared.token.Kind.{Kind}
 use Rattle.lexis.specs.declared.token.Kind.TheVariants.{Name, Variable, Integer, Float, Text, Open, Close, Comma, Dot, Neck, Query, End}
-
-abbrev pub is_digit : ℕ → Bool
-is_digit b = class_of b == 2
 
 -- every byte of the list passes the test
 pub data All (p : ℕ → Bool) : List ℕ → Type 0 where
@@ -21,10 +19,10 @@ pub data All (p : ℕ → Bool) : List ℕ → Type 0 where
 -- An integer is digits, perhaps directly after a `-`; a float is `0f` and eight digits of base 16. A string is bytes from 32 to 126 without the quote, in quotes.
 -- The marks are `(` `)` `,` `.` `:-` and `?-`. The end of the text has no bytes.
 pub data Spelt : Kind → List ℕ → Type 0 where
-  name : {b : ℕ} {w : List ℕ} → class_of b ≡ 3 → All is_word w → Spelt Name (b ∷ w)
-  variable : {b : ℕ} {w : List ℕ} → class_of b ≡ 4 → All is_word w → Spelt Variable (b ∷ w)
-  digits : {b : ℕ} {w : List ℕ} → class_of b ≡ 2 → All is_digit w → Spelt Integer (b ∷ w)
-  minus : {b : ℕ} {w : List ℕ} → class_of b ≡ 2 → All is_digit w → Spelt Integer (45 ∷ b ∷ w)
+  name : {b : ℕ} {w : List ℕ} → class_of b ≡ Lower → All is_word w → Spelt Name (b ∷ w)
+  variable : {b : ℕ} {w : List ℕ} → class_of b ≡ Upper → All is_word w → Spelt Variable (b ∷ w)
+  digits : {b : ℕ} {w : List ℕ} → class_of b ≡ Digit → All is_digit w → Spelt Integer (b ∷ w)
+  minus : {b : ℕ} {w : List ℕ} → class_of b ≡ Digit → All is_digit w → Spelt Integer (45 ∷ b ∷ w)
   float : {w : List ℕ} → length w ≡ 8 → All is_hex w → Spelt Float (48 ∷ 102 ∷ w)
   quotes : {w : List ℕ} → All is_quoted w → Spelt Text (34 ∷ w ++ 34 ∷ [])
   opening : Spelt Open (40 ∷ [])
@@ -36,7 +34,7 @@ pub data Spelt : Kind → List ℕ → Type 0 where
 
 -- only blanks stand from the place that was asked to before another; a place past the text counts as its end
 abbrev pub BlanksTo : List ℕ → ℕ → ℕ → Type 0
-BlanksTo text at to = (min at (length text) ≤ to) × ((i : ℕ) → min at (length text) ≤ i → i < to → class_of (slice_index text i) ≡ 1)
+BlanksTo text at to = (min at (length text) ≤ to) × ((i : ℕ) → min at (length text) ≤ i → i < to → class_of (slice_index text i) ≡ Blank)
 
 -- no bytes from one place on that end after another are a token
 abbrev pub NoneAfter : List ℕ → ℕ → ℕ → Type 0
@@ -47,7 +45,7 @@ pub data Longest (text : List ℕ) (at : ℕ) : Result Token Fault → Type 0 wh
   stands : (t : Token) → BlanksTo text at t.start → t.start < t.end → t.end ≤ length text → Spelt t.kind (word_of text t.start t.end) → NoneAfter text t.start t.end
       → Longest text at (Ok t)
   ends : (t : Token) → BlanksTo text at (length text) → t.kind ≡ End → t.start ≡ length text → t.end ≡ length text → Longest text at (Ok t)
-  refused : (e : Fault) → BlanksTo text at e.at → e.at < length text → (class_of (slice_index text e.at) ≢ 1) → NoneAfter text e.at e.at → e.cause ≡ Grammar → Longest text at (Err e)
+  refused : (e : Fault) → BlanksTo text at e.at → e.at < length text → (class_of (slice_index text e.at) ≢ Blank) → NoneAfter text e.at e.at → e.cause ≡ Grammar → Longest text at (Err e)
 
 -- nothing else stands there
 abbrev pub Only : List ℕ → ℕ → Result Token Fault → Type 0

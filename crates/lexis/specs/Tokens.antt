@@ -1,29 +1,30 @@
 -- The token that stands at a place of the text.
 use Rattle.std.specs.Prelude.{ℕ, ◌+◌, ◌<◌, ◌≤◌, min, Bool, cond, ◌&&◌, List, length, Some, None, Ok, Err, Option, Result, ◌==◌, ◌≢◌, nat_le, nat_lt, slice_index}
 use Rattle.lexis.specs.Classes.{class_of}
-use Rattle.lexis.specs.Runs.{end_of}
+use Rattle.lexis.specs.declared.class.Class.{Class}
+use Rattle.lexis.specs.declared.class.Class.TheVariants.{Other, Blank, Digit, Lower, Upper, Mark, Visible}
+use Rattle.lexis.specs.Runs.{is_blank, is_digit, is_hex, is_quoted, is_word, end_of}
 use Rattle.lexis.specs.declared.fault.Fault.{Fault}
 use Rattle.lexis.specs.declared.fault.Cause.TheVariants.{Grammar}
 use Rattle.lexis.specs.declared.token.Token.{Token}
 use Rattle.lexis.specs.declared.token.Kind.{Kind}
 use Rattle.lexis.specs.declared.token.Kind.TheVariants.{Name, Variable, Integer, Float, Text, Open, Close, Comma, Dot, Neck, Query, End}
-use Rattle.lexis.specs.declared.token.Run.TheVariants.{Blank, Word, Digit, Hex, Quoted}
 
 -- `0f` and eight digits in base 16
 abbrev pub float_at : List ℕ → ℕ → Bool
-float_at text s = slice_index text s == 48 && (slice_index text (s + 1) == 102 && nat_le (s + 10) (end_of Hex text (s + 2)))
+float_at text s = slice_index text s == 48 && (slice_index text (s + 1) == 102 && nat_le (s + 10) (end_of is_hex text (s + 2)))
 
 -- a float, or else an integer
 abbrev pub number_at : List ℕ → ℕ → Kind × ℕ
-number_at text s = cond (float_at text s) (Float, s + 10) (Integer, end_of Digit text (s + 1))
+number_at text s = cond (float_at text s) (Float, s + 10) (Integer, end_of is_digit text (s + 1))
 
 -- a string ends with a second quote
 abbrev pub quoted_at : List ℕ → ℕ → Option (Kind × ℕ)
-quoted_at text s = cond (slice_index text (end_of Quoted text (s + 1)) == 34) (Some (Text, end_of Quoted text (s + 1) + 1)) None
+quoted_at text s = cond (slice_index text (end_of is_quoted text (s + 1)) == 34) (Some (Text, end_of is_quoted text (s + 1) + 1)) None
 
 -- a minus sign belongs to the digits directly after it
 abbrev pub negative_at : List ℕ → ℕ → Option (Kind × ℕ)
-negative_at text s = cond (nat_lt (s + 1) (end_of Digit text (s + 1))) (Some (Integer, end_of Digit text (s + 1))) None
+negative_at text s = cond (nat_lt (s + 1) (end_of is_digit text (s + 1))) (Some (Integer, end_of is_digit text (s + 1))) None
 
 -- a mark of two bytes, the second of them `-`
 abbrev pub arrow_at : List ℕ → ℕ → Kind → Option (Kind × ℕ)
@@ -43,12 +44,14 @@ by_mark text s b =
 abbrev pub mark_at : List ℕ → ℕ → Option (Kind × ℕ)
 mark_at text s = by_mark text s (slice_index text s)
 
-abbrev pub by_class : List ℕ → ℕ → ℕ → Option (Kind × ℕ)
-by_class text s c =
-    cond (c == 2) (Some (number_at text s))
-    (cond (c == 3) (Some (Name, end_of Word text (s + 1)))
-    (cond (c == 4) (Some (Variable, end_of Word text (s + 1)))
-    (cond (c == 5) (mark_at text s) None)))
+abbrev pub by_class : List ℕ → ℕ → Class → Option (Kind × ℕ)
+by_class text s Digit = Some (number_at text s)
+by_class text s Lower = Some (Name, end_of is_word text (s + 1))
+by_class text s Upper = Some (Variable, end_of is_word text (s + 1))
+by_class text s Mark = mark_at text s
+by_class text s Other = None
+by_class text s Blank = None
+by_class text s Visible = None
 
 -- the kind and the end of the token that begins at a place
 abbrev pub shape_at : List ℕ → ℕ → Option (Kind × ℕ)
@@ -56,7 +59,7 @@ shape_at text s = by_class text s (class_of (slice_index text s))
 
 -- the place of the first byte from a place on that is no blank; a place past the text counts as its end
 abbrev pub start_at : List ℕ → ℕ → ℕ
-start_at text at = end_of Blank text (min at (length text))
+start_at text at = end_of is_blank text (min at (length text))
 
 abbrev pub told : ℕ → Option (Kind × ℕ) → Result Token Fault
 told s (Some w) = Ok (record { kind = w.0; start = s; end = w.1 })
@@ -67,11 +70,6 @@ abbrev pub token_at : List ℕ → ℕ → Result Token Fault
 token_at text at =
     cond (start_at text at == length text) (Ok (record { kind = End; start = start_at text at; end = start_at text at }))
     (told (start_at text at) (shape_at text (start_at text at)))
-
--- a token has a byte at least, and ends within the text
-abbrev pub Ends : ℕ → ℕ → Option (Kind × ℕ) → Type 0
-Ends start length None = Unit {0}
-Ends start length (Some w) = (start < w.1) × (w.1 ≤ length)
 
 -- where a token stands: not before the place that was asked, within the text, and with a byte at least unless it is the end
 abbrev pub Placed : ℕ → ℕ → Result Token Fault → Type 0

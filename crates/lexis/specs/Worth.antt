@@ -2,6 +2,7 @@
 use Rattle.std.specs.Prelude.{ℕ, ◌+◌, ◌-◌, ◌*◌, ◌%◌, min, cond, List, length, drop, Some, None, Ok, Err, fold, Option, Result, ◌==◌, nat_le, slice_index, slice_range}
 use Rattle.lexis.specs.declared.fault.Fault.{Fault}
 use Rattle.lexis.specs.declared.fault.Cause.TheVariants.{Size}
+use Rattle.lexis.specs.declared.token.Span.{Span}
 use Rattle.lexis.specs.declared.token.Token.{Token}
 use Rattle.lexis.specs.declared.token.Kind.{Kind}
 use Rattle.lexis.specs.declared.token.Kind.TheVariants.{Name, Variable, Integer, Float, Text, Open, Close, Comma, Dot, Neck, Query, End}
@@ -9,6 +10,9 @@ use Rattle.lexis.specs.declared.token.Kind.TheVariants.{Name, Variable, Integer,
 -- the bytes from a place to before another, so far as the text has them
 unfoldable pub word_of : List ℕ → ℕ → ℕ → List ℕ
 word_of text start end = slice_range text start end
+
+abbrev pub word_at : List ℕ → Span → List ℕ
+word_at text s = word_of text s.start s.end
 
 -- the number that digits write in base 10
 unfoldable pub decimal : List ℕ → ℕ

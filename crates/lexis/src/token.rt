@@ -1,14 +1,14 @@
 // Tokens: each is the longest that fits where it begins.
-ghost use Rattle.std.specs.Prelude.{◌≡◌, ℕ, ◌+◌, ◌-◌, ◌<◌, ◌≤◌, length, slice_index};
-ghost use Rattle.lexis.specs.Runs.{belongs, is_hex, is_quoted, is_word, end_of, Between};
+ghost use Rattle.std.specs.Prelude.{◌≡◌, ℕ, ◌+◌, ◌-◌, ◌<◌, ◌≤◌, Bool, length, slice_index};
+ghost use Rattle.lexis.specs.Runs.{Tests, is_blank, is_digit, is_hex, is_quoted, is_word, end_of, Between};
 ghost use Rattle.lexis.specs.Spelt.{Longest, Only};
-ghost use Rattle.lexis.specs.Tokens.{number_at, quoted_at, negative_at, arrow_at, mark_at, shape_at, start_at, token_at, Ends, Placed};
+ghost use Rattle.lexis.specs.Tokens.{number_at, quoted_at, negative_at, arrow_at, mark_at, shape_at, start_at, token_at, Placed};
 
-use crate::class::class;
+use crate::class::Class;
 use crate::fault::{Cause, Fault};
 
 // What a token is. `End` stands where only blanks are left of the text.
-#[derive(Clone, Copy)]
+#[derive(Clone, Copy, PartialEq, Eq, Debug)]
 pub enum Kind {
     Name,
     Variable,
@@ -24,164 +24,166 @@ pub enum Kind {
     End,
 }
 
+// The bytes from `start` to before `end`.
+#[derive(Clone, Copy, PartialEq, Eq, Debug)]
+pub struct Span {
+    pub start: usize,
+    pub end: usize,
+}
+
 // A token and the bytes that it takes, from `start` to before `end`.
-#[derive(Clone, Copy)]
+#[derive(Clone, Copy, PartialEq, Eq, Debug)]
 pub struct Token {
     pub kind: Kind,
     pub start: usize,
     pub end: usize,
 }
 
-// Bytes that go on for as long as they can: blanks between tokens, the bytes of a word, digits in base 10 and 16, the bytes inside quotes.
-#[derive(Clone, Copy)]
-enum Run {
-    Blank,
-    Word,
-    Digit,
-    Hex,
-    Quoted,
+impl Token {
+    // Where it stands.
+    pub fn span(self) -> Span
+        ensures { result ≡ record { start = self.start; end = self.end } }
+    {
+        Span {
+            start: self.start,
+            end: self.end,
+        }
+    }
 }
 
-fn is_hex(b: u8) -> bool
-    ensures { result ≡ is_hex b }
+fn is_blank(b: u8) -> bool
+    ensures { result ≡ is_blank b }
 {
-    b >= 48 && b <= 57 || b >= 97 && b <= 102
+    Class::of(b) == Class::Blank
 }
 
-fn is_quoted(b: u8) -> bool
-    ensures { result ≡ is_quoted b }
+fn is_digit(b: u8) -> bool
+    ensures { result ≡ is_digit b }
 {
-    b >= 32 && b <= 126 && b != 34
+    Class::of(b) == Class::Digit
 }
 
 fn is_word(b: u8) -> bool
     ensures { result ≡ is_word b }
 {
-    let c = class(b);
-    c >= 2 && c <= 4
+    matches!(Class::of(b), Class::Digit | Class::Lower | Class::Upper)
 }
 
-fn goes_on(run: Run, b: u8) -> bool
-    ensures { result ≡ belongs run b }
+fn is_hex(b: u8) -> bool
+    ensures { result ≡ is_hex b }
 {
-    match run {
-        Run::Blank => class(b) == 1,
-        Run::Word => is_word(b),
-        Run::Digit => class(b) == 2,
-        Run::Hex => is_hex(b),
-        Run::Quoted => is_quoted(b),
-    }
+    matches!(b, b'0'..=b'9' | b'a'..=b'f')
 }
 
-// The place of the first byte from `at` on that does not belong.
-fn run_end(text: &[u8], at: usize, run: Run) -> usize
-    ensures end { result ≡ end_of run text.now at }
+fn is_quoted(b: u8) -> bool
+    ensures { result ≡ is_quoted b }
+{
+    matches!(b, b' '..=b'~') && b != b'"'
+}
+
+// The place of the first byte from `at` on that does not pass the test.
+fn run_end<F: Fn(u8) -> bool>(text: &[u8], at: usize, passes: F) -> usize
+    requires within { at ≤ length text.now }
+    requires callable { F.IsAlwaysCallable passes }
+    ensures end { (test : ℕ → Bool) → Tests (F.post passes) test → result ≡ end_of test text.now at }
     ensures bounds { Between at result (length text.now) }
 {
-    let mut end = at;
-    while end < text.len() {
-        if !goes_on(run, text[end]) {
-            return end;
-        }
-        end += 1;
-    }
-    end
+    let rest = &text[at..];
+    at + rest.iter().position(|b| !passes(*b)).unwrap_or(rest.len())
 }
 
-// The byte at the place, and 0 past the text's end.
+// The byte at the place, and past the text's end 0, with which no token goes on.
 pub(crate) fn byte_at(text: &[u8], at: usize) -> u8
     ensures value { result ≡ slice_index text.now at }
     ensures inside { 0 < result → at < length text.now }
 {
-    if at < text.len() { text[at] } else { 0 }
+    text.get(at).copied().unwrap_or(0)
 }
 
-// A float is `0f` and eight digits in base 16; any other digits are an integer.
-fn number(text: &[u8], start: usize) -> (Kind, usize)
-    requires { start < length text.now }
-    ensures value { result ≡ number_at text.now start }
-    ensures bounds { (start < result.1) × (result.1 ≤ length text.now) }
-{
-    if byte_at(text, start) == 48
-        && byte_at(text, start + 1) == 102
-        && run_end(text, start + 2, Run::Hex) >= start + 10
+// A place with a byte, where a token may begin.
+#[derive(Clone, Copy)]
+struct Start<'a> {
+    text: &'a [u8],
+    at: usize,
+    ghost inside: { at < length text.now },
+}
+
+impl Start<'_> {
+    // Where the bytes behind the first that pass the test end.
+    fn run<F: Fn(u8) -> bool>(&self, passes: F) -> usize
+        requires callable { F.IsAlwaysCallable passes }
+        ensures end { (test : ℕ → Bool) → Tests (F.post passes) test → result ≡ end_of test self.now.text.now (self.now.at + 1) }
     {
-        return (Kind::Float, start + 10);
+        run_end(self.text, self.at + 1, passes)
     }
-    (Kind::Integer, run_end(text, start + 1, Run::Digit))
-}
 
-// A string's bytes and its closing quote.
-fn quoted(text: &[u8], start: usize) -> Option<(Kind, usize)>
-    requires { start < length text.now }
-    ensures value { result ≡ quoted_at text.now start }
-    ensures bounds { Ends start (length text.now) result }
-{
-    let end = run_end(text, start + 1, Run::Quoted);
-    if byte_at(text, end) == 34 {
-        Some((Kind::Text, end + 1))
-    } else {
-        None
+    // A float is `0f` and eight digits in base 16; any other digits are an integer.
+    fn number(&self) -> (Kind, usize)
+        ensures value { result ≡ number_at self.now.text.now self.now.at }
+    {
+        if byte_at(self.text, self.at) == b'0'
+            && byte_at(self.text, self.at + 1) == b'f'
+            && run_end(self.text, self.at + 2, is_hex) >= self.at + 10
+        {
+            return (Kind::Float, self.at + 10);
+        }
+        (Kind::Integer, self.run(is_digit))
     }
-}
 
-// Digits directly after a minus sign.
-fn negative(text: &[u8], start: usize) -> Option<(Kind, usize)>
-    requires { start < length text.now }
-    ensures value { result ≡ negative_at text.now start }
-    ensures bounds { Ends start (length text.now) result }
-{
-    let end = run_end(text, start + 1, Run::Digit);
-    if end > start + 1 {
-        Some((Kind::Integer, end))
-    } else {
-        None
+    // A string's bytes and its closing quote.
+    fn quoted(&self) -> Option<(Kind, usize)>
+        ensures value { result ≡ quoted_at self.now.text.now self.now.at }
+    {
+        let end = self.run(is_quoted);
+        if byte_at(self.text, end) == b'"' {
+            Some((Kind::Text, end + 1))
+        } else {
+            None
+        }
     }
-}
 
-// A mark that is a token only with a `-` behind it.
-fn arrow(text: &[u8], start: usize, kind: Kind) -> Option<(Kind, usize)>
-    requires { start < length text.now }
-    ensures value { result ≡ arrow_at text.now start kind }
-    ensures bounds { Ends start (length text.now) result }
-{
-    if byte_at(text, start + 1) == 45 {
-        Some((kind, start + 2))
-    } else {
-        None
+    // Digits directly after a minus sign.
+    fn negative(&self) -> Option<(Kind, usize)>
+        ensures value { result ≡ negative_at self.now.text.now self.now.at }
+    {
+        let end = self.run(is_digit);
+        (end > self.at + 1).then_some((Kind::Integer, end))
     }
-}
 
-fn mark(text: &[u8], start: usize) -> Option<(Kind, usize)>
-    requires { start < length text.now }
-    ensures value { result ≡ mark_at text.now start }
-    ensures bounds { Ends start (length text.now) result }
-{
-    match text[start] {
-        b'(' => Some((Kind::Open, start + 1)),
-        b')' => Some((Kind::Close, start + 1)),
-        b',' => Some((Kind::Comma, start + 1)),
-        b'.' => Some((Kind::Dot, start + 1)),
-        b':' => arrow(text, start, Kind::Neck),
-        b'?' => arrow(text, start, Kind::Query),
-        b'-' => negative(text, start),
-        b'"' => quoted(text, start),
-        _ => None,
+    // A mark that is a token only with a `-` behind it.
+    fn arrow(&self, kind: Kind) -> Option<(Kind, usize)>
+        ensures value { result ≡ arrow_at self.now.text.now self.now.at kind }
+    {
+        (byte_at(self.text, self.at + 1) == b'-').then_some((kind, self.at + 2))
     }
-}
 
-// The kind and the end of the token that begins at a place with no blank.
-fn shape(text: &[u8], start: usize) -> Option<(Kind, usize)>
-    requires { start < length text.now }
-    ensures value { result ≡ shape_at text.now start }
-    ensures bounds { Ends start (length text.now) result }
-{
-    match class(text[start]) {
-        2 => Some(number(text, start)),
-        3 => Some((Kind::Name, run_end(text, start + 1, Run::Word))),
-        4 => Some((Kind::Variable, run_end(text, start + 1, Run::Word))),
-        5 => mark(text, start),
-        _ => None,
+    fn mark(&self) -> Option<(Kind, usize)>
+        ensures value { result ≡ mark_at self.now.text.now self.now.at }
+    {
+        match self.text[self.at] {
+            b'(' => Some((Kind::Open, self.at + 1)),
+            b')' => Some((Kind::Close, self.at + 1)),
+            b',' => Some((Kind::Comma, self.at + 1)),
+            b'.' => Some((Kind::Dot, self.at + 1)),
+            b':' => self.arrow(Kind::Neck),
+            b'?' => self.arrow(Kind::Query),
+            b'-' => self.negative(),
+            b'"' => self.quoted(),
+            _ => None,
+        }
+    }
+
+    // The kind and the end of the token that begins at a place with no blank.
+    fn shape(&self) -> Option<(Kind, usize)>
+        ensures value { result ≡ shape_at self.now.text.now self.now.at }
+    {
+        match Class::of(self.text[self.at]) {
+            Class::Digit => Some(self.number()),
+            Class::Lower => Some((Kind::Name, self.run(is_word))),
+            Class::Upper => Some((Kind::Variable, self.run(is_word))),
+            Class::Mark => self.mark(),
+            Class::Other | Class::Blank | Class::Visible => None,
+        }
     }
 }
 
@@ -190,13 +192,12 @@ pub fn skip_blanks(text: &[u8], at: usize) -> usize
     ensures value { result ≡ start_at text.now at }
     ensures bounds { (at ≤ length text.now → at ≤ result) × (result ≤ length text.now) }
 {
-    run_end(text, at.min(text.len()), Run::Blank)
+    run_end(text, at.min(text.len()), is_blank)
 }
 
 // A token after blanks, step by step.
 fn scan(text: &[u8], at: usize) -> Result<Token, Fault>
     ensures value { result ≡ token_at text.now at }
-    ensures bounds { Placed (length text.now) at result }
 {
     let start = skip_blanks(text, at);
     if start == text.len() {
@@ -206,13 +207,10 @@ fn scan(text: &[u8], at: usize) -> Result<Token, Fault>
             end: start,
         });
     }
-    match shape(text, start) {
-        Some((kind, end)) => Ok(Token { kind, start, end }),
-        None => Err(Fault {
-            cause: Cause::Grammar,
-            at: start,
-        }),
-    }
+    let (kind, end) = Start { text, at: start }
+        .shape()
+        .ok_or(Cause::Grammar.at(start))?;
+    Ok(Token { kind, start, end })
 }
 
 // The next token from a place on, after blanks: the longest that fits there, and the only one that does.

@@ -1,6 +1,6 @@
 -- The lines that are printed.
 use Rattle.std.specs.Prelude.{ℕ, List, [], ◌∷◌, ◌++◌, codes, decimal}
-use Rattle.lexis.specs.Faults as fault
+use Rattle.lexis.specs.Told as fault
 use Rattle.verdicts.specs.declared.Verdict.{Verdict}
 use Rattle.verdicts.specs.declared.Verdict.TheVariants.{Holds, Fails, Erroneous, Unsettled}
 use Rattle.verdicts.specs.Numbers as refusal
@@ -20,8 +20,12 @@ uses_of Fails = codes "-"
 uses_of Erroneous = codes "-"
 uses_of Unsettled = codes "-"
 
+-- what is told of a reply
+abbrev pub told : Reply → List ℕ
+told (Answered a) = word_of a.verdict ++ (codes " " ++ (uses_of a.verdict ++ (codes " " ++ decimal a.steps)))
+told (Faulty f) = codes "refused " ++ fault.told f
+told (Refused e) = codes "refused " ++ decimal (refusal.number_of e)
+
 -- the line of a reply, with its line end
 abbrev pub printed : Reply → List ℕ
-printed (Answered a) = word_of a.verdict ++ (codes " " ++ (uses_of a.verdict ++ (codes " " ++ (decimal a.steps ++ (10 ∷ [])))))
-printed (Faulty f) = codes "refused " ++ (decimal (fault.number_of f.cause) ++ (codes " at " ++ (decimal f.at ++ (10 ∷ []))))
-printed (Refused e) = codes "refused " ++ (decimal (refusal.number_of e) ++ (10 ∷ []))
+printed r = told r ++ (10 ∷ [])

@@ -34,14 +34,14 @@ too_long_fault = record { cause = Full; at = 8192 }
 -- a sealed book has the clauses and the names of the open one
 pub record SealedFrom (open-book : Book) (sealed : SealedBook) : Type 0 where
   pub clauses : (p n : ℕ) → book_clauses sealed p n ≡ open_clauses open-book p n
-  pub names : names_of sealed.names ≡ names_of open-book.names
+  pub names : names_of sealed.book.names ≡ names_of open-book.names
 
 -- a text is read into an empty book, and its question into a draft
 pub data ReadsText (text : List ℕ) (book : Book) (draft : Draft) : Result SealedBook Fault → Type 0 where
   too_long : 8192 < length text → ReadsText text book draft (Err too_long_fault)
   no_book : {e : Fault} {b : Book} → length text ≤ 8192 → ReadsBook text book 0 (Err e) b → ReadsText text book draft (Err e)
   no_question : {e : Fault} {b : Book} {p : ℕ} → length text ≤ 8192 → ReadsBook text book 0 (Ok p) b → QuestionRefused text p e → ReadsText text book draft (Err e)
-  question : {b : Book} {p : ℕ} {s : SealedBook} → length text ≤ 8192 → ReadsBook text book 0 (Ok p) b → SealedFrom b s → Asked s.names text p draft → ReadsText text book draft (Ok s)
+  question : {b : Book} {p : ℕ} {s : SealedBook} → length text ≤ 8192 → ReadsBook text book 0 (Ok p) b → SealedFrom b s → Asked s.book.names text p draft → ReadsText text book draft (Ok s)
 
 -- no clauses and no names
 pub record Empty (book : Book) : Type 0 where

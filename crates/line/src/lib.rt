@@ -1,8 +1,8 @@
 // The line that `endorse` prints, made from the bytes that it reads.
 #![tactic(auto)]
 
-ghost use Rattle.std.specs.Prelude.{◌≡◌, ℕ, ◌+◌, ◌<◌, ◌≤◌, List, [], length, IfOk, string_bytes, nat_lt};
-ghost use Rattle.line.specs.Printed.{printed, word_of};
+ghost use Rattle.std.specs.Prelude.{◌≡◌, ℕ, ◌+◌, ◌<◌, ◌≤◌, List, [], length, IfOk, Some, string_bytes, nat_lt};
+ghost use Rattle.line.specs.Printed.{told, printed};
 ghost use Rattle.line.specs.Reading.{ReadsBook, ReadsText, Replies, RepliesByTree, RepliesWithin};
 ghost use Rattle.typing.specs.Worked.{form as kinds_by_form};
 ghost use Rattle.book.specs.Meaning.{book_clauses};
@@ -14,7 +14,9 @@ use draft::Draft;
 use frames::Frame;
 use lexis::fault::{Cause, Fault};
 use resolution::search::Search;
+use resolution::search::ask::{FRAMES, PAIRS, PATH};
 use std::alloc::{AllocError, Global};
+use std::fmt;
 use terms::Cell;
 use terms::signature::ByForm;
 use unification::Pair;
@@ -28,8 +30,9 @@ const LIMIT: u8 = 32;
 
 const ALLOWANCE: u32 = 100000;
 
-// What comes of a text: an answer to its question; a fault at a place of the text; or a refusal of the question.
-#[derive(Clone, Copy)]
+// What comes of a text: an answer to its question; a fault at a place of the text; or a refusal of the question. A fault and a refusal are told in a line
+// as an answer is, and only want of memory is passed on as an error: so it is no Result.
+#[derive(Clone, Copy, Debug, PartialEq, Eq)]
 pub enum Reply {
     Answered(Answer),
     Faulty(Fault),
@@ -61,10 +64,7 @@ fn read_text(mut book: Book, draft: &mut Draft, text: &[u8]) -> Result<SealedBoo
     ensures { ReadsText text.now book draft.new result }
 {
     if is_too_long(text) {
-        return Err(Fault {
-            cause: Cause::Full,
-            at: MOST_BYTES,
-        });
+        return Err(Cause::Full.at(MOST_BYTES));
     }
     let place = read_clauses(&mut book, draft, text)?;
     let sealed = book.seal();
@@ -84,8 +84,8 @@ fn ask(
     ensures bounded { IfOk result (λ a. Bounded (judged question.now 12864 512 (length path.old)) settings.allowance a) }
 {
     let mut search = Search::new(heap)?;
-    let mut pairs = Vec::from_elem(heap, Pair { left: 0, right: 0 }, 12864)?;
-    let mut frames = Vec::from_elem(heap, Frame::blank(), 512)?;
+    let mut pairs = Vec::from_elem(heap, Pair::default(), PAIRS)?;
+    let mut frames = Vec::from_elem(heap, Frame::default(), FRAMES)?;
     Ok(search.ask(
         book,
         &ByForm,
@@ -133,45 +133,33 @@ pub fn reply_to(heap: Global, text: &[u8]) -> Result<Reply, AllocError>
     ensures replies { IfOk result (λ p. Replies text.now p) }
     ensures tree { IfOk result (λ p. RepliesByTree text.now p) }
 {
-    let mut path = [0u16; 32];
+    let mut path = [0u16; PATH];
     reply_within(heap, text, usual_settings(), &mut path)
 }
 
-// The word for a verdict.
-fn word(verdict: Verdict) -> &'static str
-    ensures { result.now ≡ word_of verdict }
-{
-    match verdict {
-        Verdict::Holds(_) => "holds",
-        Verdict::Fails => "fails",
-        Verdict::Erroneous => "erroneous",
-        Verdict::Unsettled => "unsettled",
+// The verdict, the uses or `-`, and the steps; or the refusal's number, with its place where it has one.
+impl fmt::Display for Reply {
+    ghost output = { λ reply. Some (told reply) };
+
+    fn fmt<W: fmt::Write>(&self, f: &mut fmt::Formatter<W>) -> fmt::Result {
+        match self {
+            Reply::Answered(Answer { verdict, steps }) => match verdict {
+                Verdict::Holds(uses) => write!(f, "holds {uses} {steps}"),
+                Verdict::Fails => write!(f, "fails - {steps}"),
+                Verdict::Erroneous => write!(f, "erroneous - {steps}"),
+                Verdict::Unsettled => write!(f, "unsettled - {steps}"),
+            },
+            Reply::Faulty(fault) => write!(f, "refused {fault}"),
+            Reply::Refused(refusal) => write!(f, "refused {refusal}"),
+        }
     }
 }
 
-// The line for a reply: the verdict, the uses or `-`, and the steps; or the refusal's number, with its place where it has one.
+// The line for a reply, with its line end.
 pub fn shown(heap: Global, reply: Reply) -> Result<String, AllocError>
     ensures { IfOk result (λ s. string_bytes s ≡ printed reply) }
 {
-    match reply {
-        Reply::Answered(answer) => {
-            let word = word(answer.verdict);
-            let steps = answer.steps;
-            match answer.verdict {
-                Verdict::Holds(uses) => format!(in heap; "{word} {uses} {steps}\n"),
-                _ => format!(in heap; "{word} - {steps}\n"),
-            }
-        }
-        Reply::Faulty(fault) => {
-            let number = fault.cause.number();
-            let at = fault.at;
-            format!(in heap; "refused {number} at {at}\n")
-        }
-        Reply::Refused(refusal) => {
-            let number = refusal.number();
-            format!(in heap; "refused {number}\n")
-        }
-    }
+    format!(in heap; "{reply}\n")
 }
 
 // The line that is printed for a text, with its line end.

@@ -1,11 +1,15 @@
 -- The place of a word among words.
-use Rattle.std.specs.Prelude.{ℕ, suc, cond, List, [], ◌∷◌, ◌++◌, length, nat_lt}
+use Rattle.std.specs.Prelude.{ℕ, cond, List, [], ◌∷◌, ◌++◌, length, position, Option, nat_lt}
+use Rattle.std.specs.List.{position_or_len}
 use Rattle.std.specs.Str.{bytes_eq}
 
 -- the place of a word among words, or their number where it is not among them
 unfoldable pub place_of : List ℕ → List (List ℕ) → ℕ
-place_of w [] = 0
-place_of w (x ∷ xs) = cond (bytes_eq x w) 0 (suc (place_of w xs))
+place_of w ws = position_or_len (λ x. bytes_eq x w) ws
+
+-- the place of a word among words, where it is among them
+unfoldable pub found_in : List ℕ → List (List ℕ) → Option ℕ
+found_in w ws = position (λ x. bytes_eq x w) ws
 
 -- the words with one more, where it is new
 abbrev pub with_word : List ℕ → List (List ℕ) → List (List ℕ)

@@ -1,10 +1,7 @@
 -- Words at their spans.
 use Rattle.std.specs.Prelude.{ℕ, ◌+◌, List, [], ◌∷◌, map, length}
-use Rattle.lexis.specs.Worth.{word_of}
-use Rattle.names.specs.declared.Span.{Span}
-
-abbrev pub word_at : List ℕ → Span → List ℕ
-word_at bytes s = word_of bytes s.start s.end
+use Rattle.lexis.specs.declared.token.Span.{Span}
+pub use Rattle.lexis.specs.Worth.{word_at}
 
 -- the words at their spans, in order
 unfoldable pub words_in : List ℕ → List Span → List (List ℕ)

@@ -3,18 +3,22 @@
 
 ghost use Rattle.std.specs.Prelude.{◌≡◌, ℕ, ◌<◌, ◌≤◌, vec_len, vec_capacity, slice_index_or};
 ghost use Rattle.names.specs.Spans.{words_in, bytes_of};
-ghost use Rattle.names.specs.declared.Span.{Span as SpanOf};
+ghost use Rattle.lexis.specs.declared.token.Span.{Span as SpanOf};
 
 pub mod words;
 
-// The bytes from `start` to before `end`.
-#[derive(Clone, Copy)]
-pub struct Span {
-    pub start: usize,
-    pub end: usize,
-}
+pub use lexis::token::Span;
 
-// Its memory is taken once, at the stated limits: 256 names, 4,096 bytes.
+// A table has at most so many names, and so many bytes of names.
+const NAMES: usize = 256;
+
+const BYTES: usize = 4096;
+
+// There is no room for more names.
+#[derive(Clone, Copy, PartialEq, Eq, Debug)]
+pub struct NoRoom;
+
+// Its memory is taken once, at the stated limits; so names lie in one buffer, where a map would take memory at each.
 #[derive(Drop)]
 pub struct Names {
     spans: Vec<Span>,

@@ -12,11 +12,11 @@ fn tell(rt: HostRuntime, limit: u8, allowance: u32, text: &str) -> anyhow::Resul
     let settings = match Settings::new(limit, allowance) {
         Ok(settings) => settings,
         Err(refusal) => {
-            let number = refusal.number();
-            println!(rt; "refused {number}")?;
+            println!(rt; "refused {refusal}")?;
             return Ok(());
         }
     };
+    // 999 shows which places were not written
     let mut path = [999u16; 32];
     let reply = reply_within(rt.alloc(), text.as_bytes(), settings, &mut path)?;
     let line = shown(rt.alloc(), reply)?;

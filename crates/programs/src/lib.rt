@@ -4,8 +4,6 @@
 ghost use Rattle.programs.specs.Laws.{SpellingLaw};
 
 // Cells that are a clause spell one, and only one; cells made new spell the clause made new; a source's cells spell a program.
-pub fn spelling_stands() -> u8
+pub fn spelling_stands()
     ensures { SpellingLaw }
-{
-    0
-}
+{}

@@ -1,6 +1,6 @@
-use Rattle.std.specs.Prelude.{ℕ, ◌+◌, ◌-◌, ◌*◌, Bool, cond, ◌&&◌, ◌||◌, List, [], ◌∷◌, ◌++◌, Some, None, codes, decimal, Option, ◌==◌, nat_le, slice_index}
+use Rattle.std.specs.Prelude.{ℕ, ◌+◌, ◌-◌, ◌*◌, Bool, cond, ◌&&◌, ◌||◌, List, [], ◌∷◌, Some, None, codes, Option, ◌==◌, nat_le, slice_index}
 use Rattle.records.specs.declared.fault.BenchFault.{BenchFault}
-use Rattle.records.specs.Numbers.{number_of}
+use Rattle.records.specs.Numbers.{fault_text as shown}
 
 -- the value of a hexadecimal digit; 0 for any other byte
 abbrev pub hex_of : ℕ → ℕ
@@ -23,4 +23,4 @@ symbol_at bytes at = slice_index bytes at * 256 + slice_index bytes (at + 1)
 -- what is told of the first fault, if there is one
 abbrev pub fault_text : Option BenchFault → List ℕ
 fault_text None = codes "good"
-fault_text (Some f) = decimal (number_of f.cause) ++ (codes " at " ++ decimal f.at)
+fault_text (Some f) = shown f

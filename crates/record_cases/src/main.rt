@@ -9,8 +9,8 @@ ghost use Rattle.records.specs.Faults.{fault_of};
 ghost use Rattle.record_cases.specs.Spelling.{hex_of, is_blank, spelled, symbol_at, fault_text};
 
 use book::Book;
-use clauses::Source;
 use clauses::pair::Pair;
+use clauses::{Predicate, Source};
 use draft::Draft;
 use records::Records;
 use records::fact::Symbols;
@@ -22,7 +22,7 @@ use total::total;
 
 mod total;
 
-// The value of a hexadecimal digit; 0 for any other byte.
+// The value of a hexadecimal digit in small letters; 0 for any other byte, where std's `to_digit` takes capitals too.
 fn hex(digit: u8) -> u8
     ensures value { result ≡ hex_of digit }
     ensures bound { result < 16 }
@@ -45,13 +45,13 @@ fn blank(byte: u8) -> bool
 fn decode(out: &mut Vec<u8>, text: &[u8]) -> Result<(), AllocError>
     ensures { OnOk result (out.new.items ≡ out.old.items ++ spelled text.now) }
 {
-    let mut at = 0;
-    while at < text.len() && text.len() - at >= 2 {
-        if blank(text[at]) {
-            at += 1;
+    let mut left = text;
+    while let [high, low, rest @ ..] = left {
+        if blank(*high) {
+            left = &left[1..];
         } else {
-            out.push(hex(text[at]) * 16 + hex(text[at + 1]))?;
-            at += 2;
+            out.push(hex(*high) * 16 + hex(*low))?;
+            left = rest;
         }
     }
     Ok(())
@@ -62,7 +62,7 @@ fn symbol_at(bytes: &[u8], at: usize) -> u16
     requires { at + 2 ≤ length bytes.now }
     ensures { result ≡ symbol_at bytes.now at }
 {
-    bytes[at] as u16 * 256 + bytes[at + 1] as u16
+    u16::from_be_bytes([bytes[at], bytes[at + 1]])
 }
 
 // The first fault's number and place, or that there is none.
@@ -70,12 +70,18 @@ fn fault_text(heap: Global, bytes: &[u8]) -> Result<String, AllocError>
     ensures { IfOk result (λ text. string_bytes text ≡ fault_text (fault_of bytes.now)) }
 {
     match check(bytes) {
-        Some(fault) => {
-            let number = fault.cause.number();
-            let at = fault.at;
-            format!(in heap; "{number} at {at}")
-        }
+        Some(fault) => format!(in heap; "{fault}"),
         None => format!(in heap; "good"),
+    }
+}
+
+// A predicate of two arguments.
+fn pair_of(symbol: u16) -> Predicate
+    ensures { result ≡ record { symbol = symbol; arity = 2 } }
+{
+    Predicate {
+        symbol: symbol as u32,
+        arity: 2,
     }
 }
 
@@ -84,22 +90,18 @@ fn show_fact<S: Source>(
     heap: Global,
     out: &mut String,
     source: &S,
-    symbol: u32,
+    predicate: Predicate,
     i: usize,
 ) -> Result<(), AllocError> {
-    let mut cells = [Cell {
-        tag: 0,
-        form: 0,
-        arity: 0,
-        value: 0,
-    }; 3];
-    let Ok(_) = source.write(symbol, 2, i, 0, &mut cells, 0) else {
+    let mut cells = [Cell::default(); 3];
+    if source.write(predicate, i, 0, &mut cells, 0).is_err() {
         return out.push_str(" refused");
-    };
-    let card = cells[1].value;
-    let value = cells[2].value;
-    let kind = if cells[2].form == 2 { "a" } else { "i" };
-    let text = format!(in heap; " {card}:{kind}{value}")?;
+    }
+    let [_, card, value] = cells;
+    let kind = if value.form == 2 { "a" } else { "i" };
+    let card = card.value;
+    let said = value.value;
+    let text = format!(in heap; " {card}:{kind}{said}")?;
     out.push_str(text.as_str())
 }
 
@@ -108,17 +110,17 @@ fn show_facts<S: Source>(
     heap: Global,
     out: &mut String,
     source: &S,
-    symbol: u32,
+    predicate: Predicate,
 ) -> Result<(), AllocError> {
-    let n = source.count(symbol, 2);
+    let n = source.count(predicate);
     let text = format!(in heap; " | {n}")?;
     out.push_str(text.as_str())?;
     if n > 16 {
-        show_fact(heap, out, source, symbol, n - 1)?;
-        return show_fact(heap, out, source, symbol, n);
+        show_fact(heap, out, source, predicate, n - 1)?;
+        return show_fact(heap, out, source, predicate, n);
     }
     for i in 0..n {
-        show_fact(heap, out, source, symbol, i)?;
+        show_fact(heap, out, source, predicate, i)?;
     }
     Ok(())
 }
@@ -131,25 +133,25 @@ fn show_pairs(
     bytes: &[u8],
     symbols: Symbols,
 ) -> Result<(), AllocError> {
-    let lot = symbols.lot as u32;
-    let one = total(&records, lot, 2);
-    let second = Records::new(heap, bytes, symbols)?;
-    let pair = Pair::new(records, second);
-    show_facts(heap, out, &pair, symbols.stage as u32)?;
-    let two = total(&pair, lot, 2);
+    let lot = pair_of(symbols.lot);
+    let one = total(&records, lot);
+    let pair = Pair::new(records, Records::new(heap, bytes, symbols)?);
+    show_facts(heap, out, &pair, pair_of(symbols.stage))?;
+    let two = total(&pair, lot);
     let third = Records::new(heap, bytes, symbols)?;
     let fourth = Records::new(heap, bytes, symbols)?;
-    let four = total(&Pair::new(pair, Pair::new(third, fourth)), lot, 2);
+    let four = total(&Pair::new(pair, Pair::new(third, fourth)), lot);
     let text = format!(in heap; " | {one} {two} {four}")?;
     out.push_str(text.as_str())
 }
 
+// What the records tell: the fault, the facts under each symbol, and the pairs.
 fn told(heap: Global, bytes: &[u8], symbols: Symbols) -> Result<String, AllocError> {
     let mut out = fault_text(heap, bytes)?;
     let records = Records::new(heap, bytes, symbols)?;
-    show_facts(heap, &mut out, &records, symbols.lot as u32)?;
-    show_facts(heap, &mut out, &records, symbols.stage as u32)?;
-    show_facts(heap, &mut out, &records, symbols.cycles as u32)?;
+    for symbol in [symbols.lot, symbols.stage, symbols.cycles] {
+        show_facts(heap, &mut out, &records, pair_of(symbol))?;
+    }
     show_pairs(heap, &mut out, records, bytes, symbols)?;
     Ok(out)
 }
@@ -185,21 +187,20 @@ fn book_totals(heap: Global) -> Result<String, AllocError> {
         stage: 5,
         cycles: 6,
     };
+    let lot = pair_of(symbols.lot);
     let mut book = Book::new(heap)?;
     let mut draft = Draft::new(heap)?;
     let mut at = 0;
     for _ in 0..2 {
-        if let Ok(end) = book.read(&mut draft, text, at) {
-            at = end;
-        }
+        at = book.read(&mut draft, text, at).unwrap_or(at);
     }
     let sealed = book.seal();
-    let alone = total(&sealed, 0, 2);
+    let alone = total(&sealed, lot);
     let both = Pair::new(sealed, Records::new(heap, &[3, 7, 0, 9, 0], symbols)?);
-    let joined = total(&both, 0, 2);
+    let joined = total(&both, lot);
     let first = Records::new(heap, &[3, 7, 0, 9, 0], symbols)?;
     let second = Records::new(heap, &[3, 8, 0, 9, 0], symbols)?;
-    let all = total(&Pair::new(both, Pair::new(first, second)), 0, 2);
+    let all = total(&Pair::new(both, Pair::new(first, second)), lot);
     format!(in heap; "book {alone} {joined} {all}")
 }
 

@@ -1,25 +1,17 @@
 -- Numbers in bytes, and a record's fields by their places.
-use Rattle.std.proofs.Common.{◌≡◌, ℕ, ◌+◌, ◌*◌, ◌≤◌, Bool, true, false, cond, List, [], ◌∷◌, length, get_or, take, drop, Some, None, Option, sym, refl, ap, ◌∙◌, arith}
-use Rattle.std.proofs.lemmas.List.{drop_more, drop-drop}
+use Rattle.std.proofs.Common.{◌≡◌, ℕ, ◌+◌, Bool, true, false, cond, List, [], ◌∷◌, get_or, take, drop, Some, None, Option, is_some, IfSome, sym, refl, ap, ◌∙◌}
+use Rattle.std.proofs.lemmas.List.{drop-drop}
 use Rattle.records.specs.declared.format.Field.{Field}
 use Rattle.records.specs.declared.format.Field.TheVariants.{Card, Lot, Stage, Cycles}
 use Rattle.records.specs.declared.format.Record.{Record}
 use Rattle.records.specs.Format.{little, entries, record_of, record_in, fields_by_place, stands, fields_of}
 
-pub little_two : (bs : List ℕ) (at : ℕ) → at + 2 ≤ length bs → little (take 2 (drop at bs)) ≡ get_or bs at 0 + 256 * get_or bs (at + 1) 0
-little_two bs at h =
-    ap (λ t. little (take 2 t)) (drop_more bs at 0 (omega arith) ∙ ap (λ t. get_or bs at 0 ∷ t) (drop_more bs (at + 1) 0 (omega arith)))
-    ∙ (omega arith)
-
-pub little_four : (bs : List ℕ) (at : ℕ) → at + 4 ≤ length bs
-    → little (take 4 (drop at bs)) ≡ get_or bs at 0 + 256 * (get_or bs (at + 1) 0 + 256 * (get_or bs (at + 2) 0 + 256 * get_or bs (at + 3) 0))
-little_four bs at h =
-    let e₁ : drop (at + 1) bs ≡ get_or bs (at + 1) 0 ∷ drop (at + 2) bs = drop_more bs (at + 1) 0 (omega arith) ∙ ap (λ n. get_or bs (at + 1) 0 ∷ drop n bs) (omega arith) in
-    let e₂ : drop (at + 2) bs ≡ get_or bs (at + 2) 0 ∷ drop (at + 3) bs = drop_more bs (at + 2) 0 (omega arith) ∙ ap (λ n. get_or bs (at + 2) 0 ∷ drop n bs) (omega arith) in
-    let e₃ : drop (at + 3) bs ≡ get_or bs (at + 3) 0 ∷ drop (at + 3 + 1) bs = drop_more bs (at + 3) 0 (omega arith) in
-    ap (λ t. little (take 4 t))
-    (drop_more bs at 0 (omega arith) ∙ ap (λ t. get_or bs at 0 ∷ t) (e₁ ∙ ap (λ t. get_or bs (at + 1) 0 ∷ t) (e₂ ∙ ap (λ t. get_or bs (at + 2) 0 ∷ t) e₃)))
-    ∙ (omega arith)
+-- what a test and then a value tell
+pub told_then : (o : Option ℕ) (s : Bool) (v : ℕ) → is_some o ≡ s → IfSome o (λ r. r ≡ v) → o ≡ cond s (Some v) None
+told_then None true v e h = cc
+told_then None false v e h = refl
+told_then (Some n) true v e h = ap Some h
+told_then (Some n) false v e h = cc
 
 -- the fields of a record with a card, as the other three bits stand
 abbrev with_card : Bool → Bool → Bool → List Field

@@ -1,21 +1,22 @@
 -- The numbers of facts fit, since those of bytes do.
-use Rattle.std.proofs.Common.{◌≡◌, ℕ, zero, suc, ◌+◌, ◌<◌, Bool, true, false, cond, ◌&&◌, eqb, ltb, List, [], ◌∷◌, ◌++◌, get_or, take, drop, Some, None, All, filter, Option, sym, refl, ap, ◌∙◌, subst, arith}
-use Rattle.std.proofs.lemmas.List.Elements.{All-nil, All-cons, All-head, All-tail}
+use Rattle.std.proofs.Common.{◌≡◌, ℕ, zero, suc, ◌+◌, ◌<◌, Bool, true, false, cond, eqb, ltb, List, [], ◌∷◌, get_or, take, drop, vec_items, Some, None, All, filter, Option, sym, refl, ◌∙◌, subst, arith}
+use Rattle.std.proofs.lemmas.List.Elements.{All-nil, All-cons, All-head, All-tail, All-append, All-filter, All-take, All-get_or, All-from_get_or, filter_passes}
 use Rattle.std.specs.List.{flat_map}
+use Rattle.std.specs.Option.{option_map}
 use Rattle.std.proofs.lemmas.List.{get_or-drop}
-use Rattle.std.proofs.lemmas.List.Elements.{filter-append}
-use Rattle.std.proofs.lemmas.Bool.{eqb-true, lt-ltb}
+use Rattle.std.proofs.lemmas.Bool.{and_from, eqb-true, lt-ltb}
 use Rattle.records.specs.declared.format.Field.{Field}
 use Rattle.records.specs.declared.format.Field.TheVariants.{Card, Lot, Stage, Cycles}
 use Rattle.records.specs.declared.format.Record.{Record}
 use Rattle.records.specs.declared.fact.Fact.{Fact}
+use Rattle.records.specs.declared.gather.Listing.{Listing}
+use Rattle.records.specs.Meaning.{Gathers}
 use Rattle.records.specs.declared.fact.Symbols.{Symbols}
-use Rattle.records.specs.declared.fact.Value.{Value}
 use Rattle.records.specs.declared.fact.Value.TheVariants.{Atom, Integer}
 use Rattle.records.specs.Format.{Entry, bit_of, size_of, little, entries, value_of, or_zero, record_in, fields_of, sizes}
 use Rattle.records.specs.Faults.{fault_in, is_good, records_from, records_of}
-use Rattle.records.specs.Facts.{cut, is_for, listed, record_facts, facts_of, atom_fact, integer_fact}
-use Rattle.records.specs.Fit.{fits, all_fit, value_fits}
+use Rattle.records.specs.Facts.{cut, is_for, listed, record_facts, facts_of, fact_of}
+use Rattle.records.specs.Fit.{fits, AllFit, value_fits}
 
 abbrev Octets : List ℕ → Type 0
 Octets bs = (i : ℕ) → get_or bs i 0 < 256
@@ -52,18 +53,18 @@ same_size : (f g : Field) → eqb (bit_of f) (bit_of g) ≡ true → size_of g �
 same_size Card Card e = refl
 same_size Card Lot e = refl
 same_size Card Stage e = refl
-same_size Card Cycles e = let z : ◌≡◌ {A = ℕ} 0 1 = cc in let q : ⊥ = omega arith in elim q [ ]
+same_size Card Cycles e = cc
 same_size Lot Card e = refl
 same_size Lot Lot e = refl
 same_size Lot Stage e = refl
-same_size Lot Cycles e = let z : ◌≡◌ {A = ℕ} 0 1 = cc in let q : ⊥ = omega arith in elim q [ ]
+same_size Lot Cycles e = cc
 same_size Stage Card e = refl
 same_size Stage Lot e = refl
 same_size Stage Stage e = refl
-same_size Stage Cycles e = let z : ◌≡◌ {A = ℕ} 0 1 = cc in let q : ⊥ = omega arith in elim q [ ]
-same_size Cycles Card e = let z : ◌≡◌ {A = ℕ} 0 1 = cc in let q : ⊥ = omega arith in elim q [ ]
-same_size Cycles Lot e = let z : ◌≡◌ {A = ℕ} 0 1 = cc in let q : ⊥ = omega arith in elim q [ ]
-same_size Cycles Stage e = let z : ◌≡◌ {A = ℕ} 0 1 = cc in let q : ⊥ = omega arith in elim q [ ]
+same_size Stage Cycles e = cc
+same_size Cycles Card e = cc
+same_size Cycles Lot e = cc
+same_size Cycles Stage e = cc
 same_size Cycles Cycles e = refl
 
 pick_small : (b : Bool) (n : ℕ) (o : Option ℕ) → (b ≡ true → n < 65536) → Under o → Under (cond b (Some n) o)
@@ -95,58 +96,49 @@ records_small n [] h = All-nil Small
 records_small (suc n) (b ∷ bs) h = records_small n bs (octets_tail b bs h)
 records_small zero (b ∷ bs) h = all_or_none (is_good (fault_in (b ∷ bs))) (record_in (b ∷ bs)) (records_from (sizes (fields_of b)) bs) (record_small (b ∷ bs) h) (records_small (sizes (fields_of b)) bs (octets_tail b bs h))
 
-both : (a b : Bool) → a ≡ true → b ≡ true → (a && b) ≡ true
-both true b p q = q
-both false b p q = p
+-- a fact whose atoms have 16 bits
+abbrev Brief : Fact → Type 0
+Brief f = (f.card < 65536) × (value_fits f.value ≡ true)
 
-carried : (a b c : Bool) → (b ≡ true → c ≡ true) → (a && b) ≡ true → (a && c) ≡ true
-carried true b c f p = f p
-carried false b c f p = p
+atom_brief : (y c : ℕ) (o : Option ℕ) → c < 65536 → Under o → All Brief (listed (fact_of y c (option_map Atom o)))
+atom_brief y c None h u = All-nil Brief
+atom_brief y c (Some n) h u = All-cons Brief _ [] (h, lt-ltb n 65536 u) (All-nil Brief)
 
-fit_append : (x : ℕ) (xs ys : List Fact) → all_fit x xs ≡ true → all_fit x ys ≡ true → all_fit x (xs ++ ys) ≡ true
-fit_append x [] ys p q = q
-fit_append x (a ∷ xs) ys p q = carried (fits x a) (all_fit x xs) (all_fit x (xs ++ ys)) (λ k. fit_append x xs ys k q) p
+integer_brief : (y c : ℕ) (o : Option ℕ) → c < 65536 → All Brief (listed (fact_of y c (option_map Integer o)))
+integer_brief y c None h = All-nil Brief
+integer_brief y c (Some n) h = All-cons Brief _ [] (h, refl) (All-nil Brief)
 
-fit_take : (x n : ℕ) (fs : List Fact) → all_fit x fs ≡ true → all_fit x (take n fs) ≡ true
-fit_take x zero fs h = refl
-fit_take x (suc n) [] h = refl
-fit_take x (suc n) (f ∷ fs) h = carried (fits x f) (all_fit x fs) (all_fit x (take n fs)) (fit_take x n fs) h
+said_brief : (s : Symbols) (r : Record) → Small r → All Brief (record_facts s r)
+said_brief s r h =
+    All-append Brief (listed (fact_of s.lot r.card (option_map Atom r.lot))) _ (atom_brief s.lot r.card r.lot h.0 h.1)
+    (All-append Brief (listed (fact_of s.stage r.card (option_map Atom r.stage))) _ (atom_brief s.stage r.card r.stage h.0 h.2) (integer_brief s.cycles r.card r.cycles h.0))
 
-one_fit : (x y c : ℕ) (v : Value) → x < 65536 → c < 65536 → value_fits v ≡ true → all_fit x (filter (is_for x) (record { symbol = y; card = c; value = v } ∷ [])) ≡ true
-one_fit x y c v hx hc hv = step (eqb y x) refl
-  where
-    step : (b : Bool) → eqb y x ≡ b → all_fit x (cond b (record { symbol = y; card = c; value = v } ∷ []) []) ≡ true
-    step false e = refl
-    step true e =
-        let k = eqb-true y x e in
-        both (fits x (record { symbol = y; card = c; value = v })) true
-        (both (eqb y x) _ e (both (ltb y 65536) _ (lt-ltb y 65536 (omega arith)) (both (ltb c 65536) _ (lt-ltb c 65536 hc) hv))) refl
+all_brief : (s : Symbols) (rs : List Record) → All Small rs → All Brief (flat_map (record_facts s) rs)
+all_brief s [] h = All-nil Brief
+all_brief s (r ∷ rs) h = All-append Brief (record_facts s r) (flat_map (record_facts s) rs) (said_brief s r (All-head Small r rs h)) (all_brief s rs (All-tail Small r rs h))
 
-atom_fit : (x y c : ℕ) (o : Option ℕ) → x < 65536 → c < 65536 → Under o → all_fit x (filter (is_for x) (listed (atom_fact y c o))) ≡ true
-atom_fit x y c None hx hc h = refl
-atom_fit x y c (Some n) hx hc h = one_fit x y c (Atom n) hx hc (lt-ltb n 65536 h)
+one_fits : (x : ℕ) (f : Fact) → x < 65536 → is_for x f ≡ true → Brief f → fits x f ≡ true
+one_fits x f h e b =
+    let k = eqb-true f.symbol x e in
+    and_from (eqb f.symbol x) _ e (and_from (ltb f.symbol 65536) _ (lt-ltb f.symbol 65536 (omega arith)) (and_from (ltb f.card 65536) _ (lt-ltb f.card 65536 b.0) b.1))
 
-integer_fit : (x y c : ℕ) (o : Option ℕ) → x < 65536 → c < 65536 → all_fit x (filter (is_for x) (listed (integer_fact y c o))) ≡ true
-integer_fit x y c None hx hc = refl
-integer_fit x y c (Some n) hx hc = one_fit x y c (Integer n) hx hc refl
-
-said_fit : (s : Symbols) (x : ℕ) (r : Record) → x < 65536 → Small r → all_fit x (filter (is_for x) (record_facts s r)) ≡ true
-said_fit s x r hx h =
-    let a = listed (atom_fact s.lot r.card r.lot) in
-    let b = listed (atom_fact s.stage r.card r.stage) in
-    let c = listed (integer_fact s.cycles r.card r.cycles) in
-    let e : filter (is_for x) (a ++ (b ++ c)) ≡ filter (is_for x) a ++ (filter (is_for x) b ++ filter (is_for x) c) =
-    filter-append (is_for x) a (b ++ c) ∙ ap (λ t. filter (is_for x) a ++ t) (filter-append (is_for x) b c) in
-    ap (all_fit x) e
-    ∙ fit_append x (filter (is_for x) a) (filter (is_for x) b ++ filter (is_for x) c) (atom_fit x s.lot r.card r.lot hx h.0 h.1)
-    (fit_append x (filter (is_for x) b) (filter (is_for x) c) (atom_fit x s.stage r.card r.stage hx h.0 h.2) (integer_fit x s.cycles r.card r.cycles hx h.0))
-
-all_said_fit : (s : Symbols) (x : ℕ) (rs : List Record) → x < 65536 → All Small rs → all_fit x (filter (is_for x) (flat_map (record_facts s) rs)) ≡ true
-all_said_fit s x [] hx h = refl
-all_said_fit s x (r ∷ rs) hx h =
-    ap (all_fit x) (filter-append (is_for x) (record_facts s r) (flat_map (record_facts s) rs)) ∙ fit_append x (filter (is_for x) (record_facts s r)) _ (said_fit s x r hx (All-head Small r rs h)) (all_said_fit s x rs hx (All-tail Small r rs h))
+fact₀ : Fact
+fact₀ = record { symbol = 0; card = 0; value = Integer 0 }
 
 -- what was gathered fits
-pub gathered_fit : (s : Symbols) (x : ℕ) (bytes : List ℕ) (fs : List Fact) → x < 65536 → ((i : ℕ) → get_or bytes i 0 < 256) → fs ≡ cut (filter (is_for x) (facts_of s bytes)) → all_fit x fs ≡ true
+gathered_fit : (s : Symbols) (x : ℕ) (bytes : List ℕ) (fs : List Fact) → x < 65536 → ((i : ℕ) → get_or bytes i 0 < 256) → fs ≡ cut (filter (is_for x) (facts_of s bytes)) → AllFit x fs
 unfolding cut
-gathered_fit s x bytes fs hx h e = ap (all_fit x) e ∙ fit_take x 65535 (filter (is_for x) (facts_of s bytes)) (all_said_fit s x (records_of bytes) hx (records_small 0 bytes h))
+gathered_fit s x bytes fs hx h e =
+    let all = facts_of s bytes in
+    let kept = filter (is_for x) all in
+    let brief = All-filter (is_for x) Brief all (all_brief s (records_of bytes) (records_small 0 bytes h)) in
+    let under = filter_passes (is_for x) all in
+    subst (AllFit x) (sym e)
+    (All-take (λ f. fits x f ≡ true) 65535 kept
+    (All-from_get_or (λ f. fits x f ≡ true) kept fact₀ (λ i l. one_fits x (get_or kept i fact₀) hx (All-get_or (λ f. is_for x f ≡ true) kept i fact₀ l under) (All-get_or Brief kept i fact₀ l brief))))
+
+pub listing_fit : (s : Symbols) (bytes : List ℕ) (x : ℕ) (l : Listing) → ((i : ℕ) → get_or bytes i 0 < 256) → Gathers s bytes x l → AllFit l.symbol (vec_items l.facts)
+listing_fit s bytes x l h g =
+    let n = l.narrow in
+    let e = g.under in
+    subst (λ (y : ℕ). AllFit y (vec_items l.facts)) (sym e) (gathered_fit s x bytes (vec_items l.facts) (omega arith) h g.facts)

@@ -130,7 +130,7 @@ by_fault bytes (Some c) e f = ([], bytes, ended (inr (c, e)))
 
 parts_of : (k : ℕ) (bytes : List ℕ) → length bytes ≤ k → Parts bytes
 parts_of k [] h = ([], [], ended (inl refl))
-parts_of zero (b ∷ bs) h = let q : ⊥ = omega arith in elim q [ ]
+parts_of zero (b ∷ bs) h = absurd (omega arith)
 parts_of (suc k) (b ∷ bs) h =
     by_fault (b ∷ bs) (fault_in (b ∷ bs)) refl
     (λ e. joined_parts (b ∷ bs) (sizes (fields_of b)) (first_part (b ∷ bs) (sizes (fields_of b)) refl (omega arith) e)

@@ -1,5 +1,5 @@
 -- From one record to the next.
-use Rattle.std.proofs.Common.{◌≡◌, ℕ, zero, suc, ◌+◌, ◌-◌, ◌<◌, ◌≤◌, Bool, true, false, cond, not, eqb, leb, List, [], ◌∷◌, length, get_or, drop, Some, None, Option, sym, refl, ap, ◌∙◌, subst, arith}
+use Rattle.std.proofs.Common.{◌≡◌, ℕ, zero, suc, ◌+◌, ◌-◌, ◌<◌, ◌≤◌, Bool, true, false, cond, not, eqb, leb, List, [], ◌∷◌, length, get_or, drop, Some, None, Option, is_some, sym, refl, ap, ◌∙◌, arith}
 use Rattle.std.proofs.lemmas.List.{drop-drop, drop_all, length-drop, get_or-drop}
 use Rattle.std.proofs.lemmas.Bool.{cond-true, cond-false, ne_eqb, leb-false}
 use Rattle.records.specs.declared.fault.Cause.{Cause}
@@ -20,10 +20,10 @@ records_pass (suc n) [] = refl
 records_pass (suc n) (b ∷ bs) = records_pass n bs
 
 passed : (e m l t : Bool) → e ≡ false → cond e None (cond (not m) (Some Map) (cond l (Some Short) (cond t (Some Cycles) None))) ≡ None → (m ≡ true) × (l ≡ false)
-passed true m l t h p = let z : ◌≡◌ {A = ℕ} 0 1 = cc in (subst (λ (b : Bool). m ≡ true) h (let q : ⊥ = omega arith in elim q [ ]), let q : ⊥ = omega arith in elim q [ ])
-passed false true true t h p = let z : ◌≡◌ {A = ℕ} 0 1 = cc in (refl, let q : ⊥ = omega arith in elim q [ ])
+passed true m l t h p = (cc, cc)
+passed false true true t h p = (refl, cc)
 passed false true false t h p = (refl, refl)
-passed false false l t h p = let z : ◌≡◌ {A = ℕ} 0 1 = cc in (let q : ⊥ = omega arith in elim q [ ], let q : ⊥ = omega arith in elim q [ ])
+passed false false l t h p = (cc, cc)
 
 -- a good record has a map that fits, and all its bytes
 pub good_map : (bs : List ℕ) → 0 < length bs → fault_in bs ≡ None → map_fits (get_or bs 0 0) ≡ true
@@ -36,7 +36,7 @@ good_whole bs h e =
 
 pub end_good : (bs : List ℕ) (n : ℕ) → n ≡ sizes (fields_of (get_or bs 0 0)) → 0 < length bs → fault_in bs ≡ None → end_from 0 bs ≡ 1 + n + end_from 0 (drop (1 + n) bs)
 unfolding end_from
-end_good [] n k h e = let q : ⊥ = omega arith in elim q [ ]
+end_good [] n k h e = absurd (omega arith)
 end_good (b ∷ bs) n k h e =
     let w = good_whole (b ∷ bs) h e in
     let p : end_from n bs ≡ n + end_from 0 (drop n bs) = end_pass n bs (omega arith) in
@@ -49,7 +49,7 @@ end_good (b ∷ bs) n k h e =
 
 pub records_good : (bs : List ℕ) (n : ℕ) → n ≡ sizes (fields_of (get_or bs 0 0)) → 0 < length bs → fault_in bs ≡ None → records_from 0 bs ≡ record_in bs ∷ records_from 0 (drop (1 + n) bs)
 unfolding records_from
-records_good [] n k h e = let q : ⊥ = omega arith in elim q [ ]
+records_good [] n k h e = absurd (omega arith)
 records_good (b ∷ bs) n k h e =
     cond-true (is_good (fault_in (b ∷ bs))) _ _ (ap is_good e)
     ∙ ap (λ rs. record_in (b ∷ bs) ∷ rs) (ap (λ m. records_from m bs) (sym k) ∙ (records_pass n bs ∙ ap (records_from 0) (drop-drop n 1 (b ∷ bs))))
@@ -88,22 +88,30 @@ end_more bs at n k h e =
     plain at n a b c s m k p q r w l h = (omega arith, omega arith)
 
 -- the bad record at a place: there the good ones end
-pub end_here : (bs : List ℕ) (at : ℕ) (c : Cause) → fault_in (drop at bs) ≡ Some c → end_of (drop at bs) ≡ 0
-end_here bs at c e = end_bad (drop at bs) c e
+end_told : (bs : List ℕ) (o : Option Cause) → fault_in bs ≡ o → is_some o ≡ true → end_of bs ≡ 0
+end_told bs (Some c) e h = end_bad bs c e
+end_told bs None e h = cc
+
+pub end_here : (bs : List ℕ) (at : ℕ) (o : Option Cause) → o ≡ fault_in (drop at bs) → is_some o ≡ true → end_of (drop at bs) ≡ 0
+end_here bs at o e h = end_told (drop at bs) o (sym e) h
+
+pub none_told : (o : Option Cause) → is_some o ≡ false → o ≡ None
+none_told None h = refl
+none_told (Some c) h = cc
 
 -- before the end of the good records there is a good one
 good_first : (b : ℕ) (bs : List ℕ) (o : Option Cause) → 0 < cond (is_good o) (suc (end_from (sizes (fields_of b)) bs)) 0 → o ≡ None
 good_first b bs None h = refl
-good_first b bs (Some c) h = let q : ⊥ = omega arith in elim q [ ]
+good_first b bs (Some c) h = absurd (omega arith)
 
 pub end_some : (bs : List ℕ) → 0 < end_of bs → (0 < length bs) × (fault_in bs ≡ None)
 unfolding end_from
-end_some [] h = let q : ⊥ = omega arith in elim q [ ]
+end_some [] h = absurd (omega arith)
 end_some (b ∷ bs) h = (omega arith, good_first b bs (fault_in (b ∷ bs)) h)
 
 none_first : (b : ℕ) (bs : List ℕ) (o : Option Cause) → cond (is_good o) (suc (end_from (sizes (fields_of b)) bs)) 0 ≡ 0
     → cond (is_good o) (record_in (b ∷ bs) ∷ records_from (sizes (fields_of b)) bs) [] ≡ []
-none_first b bs None h = let q : ⊥ = omega arith in elim q [ ]
+none_first b bs None h = absurd (omega arith)
 none_first b bs (Some c) h = refl
 
 pub records_end : (bs : List ℕ) → end_of bs ≡ 0 → records_of bs ≡ []

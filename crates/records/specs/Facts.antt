@@ -1,6 +1,7 @@
 -- The facts of records.
 use Rattle.std.specs.Prelude.{ℕ, Bool, cond, List, [], ◌∷◌, ◌++◌, take, Some, None, filter, Option, ◌==◌}
 use Rattle.std.specs.List.{flat_map}
+use Rattle.std.specs.Option.{option_map}
 use Rattle.terms.specs.declared.Cell.{Cell}
 use Rattle.records.specs.declared.fact.Symbols.{Symbols}
 use Rattle.records.specs.declared.fact.Fact.{Fact}
@@ -9,13 +10,10 @@ use Rattle.records.specs.declared.fact.Value.TheVariants.{Atom, Integer}
 use Rattle.records.specs.declared.format.Record.{Record}
 use Rattle.records.specs.Faults.{records_of}
 
-abbrev pub atom_fact : ℕ → ℕ → Option ℕ → Option Fact
-atom_fact symbol card None = None
-atom_fact symbol card (Some n) = Some (record { symbol = symbol; card = card; value = Atom n })
-
-abbrev pub integer_fact : ℕ → ℕ → Option ℕ → Option Fact
-integer_fact symbol card None = None
-integer_fact symbol card (Some n) = Some (record { symbol = symbol; card = card; value = Integer n })
+-- what is said of a card under a symbol, if anything is
+abbrev pub fact_of : ℕ → ℕ → Option Value → Option Fact
+fact_of symbol card None = None
+fact_of symbol card (Some v) = Some (record { symbol = symbol; card = card; value = v })
 
 abbrev pub listed : Option Fact → List Fact
 listed None = []
@@ -24,7 +22,7 @@ listed (Some f) = f ∷ []
 -- a record's facts, in the order of the bits
 abbrev pub record_facts : Symbols → Record → List Fact
 record_facts s r =
-    listed (atom_fact s.lot r.card r.lot) ++ (listed (atom_fact s.stage r.card r.stage) ++ listed (integer_fact s.cycles r.card r.cycles))
+    listed (fact_of s.lot r.card (option_map Atom r.lot)) ++ (listed (fact_of s.stage r.card (option_map Atom r.stage)) ++ listed (fact_of s.cycles r.card (option_map Integer r.cycles)))
 
 -- the facts of the records before the first bad one, in order
 abbrev pub facts_of : Symbols → List ℕ → List Fact

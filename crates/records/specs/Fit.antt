@@ -1,5 +1,5 @@
 -- What holds of every fact that a source of records keeps.
-use Rattle.std.specs.Prelude.{ℕ, Bool, true, ◌&&◌, List, [], ◌∷◌, ◌==◌, nat_lt}
+use Rattle.std.specs.Prelude.{◌≡◌, ℕ, Bool, true, ◌&&◌, List, All, ◌==◌, nat_lt}
 use Rattle.records.specs.declared.fact.Fact.{Fact}
 use Rattle.records.specs.declared.fact.Value.{Value}
 use Rattle.records.specs.declared.fact.Value.TheVariants.{Atom, Integer}
@@ -13,6 +13,5 @@ value_fits (Integer n) = true
 abbrev pub fits : ℕ → Fact → Bool
 fits symbol f = f.symbol == symbol && (nat_lt f.symbol 65536 && (nat_lt f.card 65536 && value_fits f.value))
 
-abbrev pub all_fit : ℕ → List Fact → Bool
-all_fit symbol [] = true
-all_fit symbol (f ∷ fs) = fits symbol f && all_fit symbol fs
+abbrev pub AllFit : ℕ → List Fact → Type 0
+AllFit symbol fs = All (λ f. fits symbol f ≡ true) fs

@@ -1,13 +1,16 @@
 -- Kept facts as clauses.
-use Rattle.std.specs.Prelude.{◌≡◌, ℕ, zero, suc, ◌<◌, ◌≤◌, Bool, true, false, cond, ◌&&◌, List, [], ◌∷◌, ◌++◌, map, length, get_or, take, Some, None, vec_items, All, filter, Option, ◌==◌, nat_lt, slice_index_or, refl}
-use Rattle.std.proofs.Common.{ap, ◌∙◌, sym, subst, arith}
+use Rattle.std.specs.Prelude.{◌≡◌, ℕ, ◌<◌, ◌≤◌, Bool, true, false, cond, List, [], ◌∷◌, ◌++◌, map, length, take, Some, None, vec_items, All, filter, Option, ◌==◌, nat_lt, slice_get, slice_index_or, MatchOption, refl}
+use Rattle.std.proofs.Common.{ap, ◌∙◌, sym, subst, inl, inr, arith}
+use Rattle.std.proofs.lemmas.Option.{slice_get_cases}
 use Rattle.std.specs.List.{flat_map}
+use Rattle.std.specs.Option.{option_map}
 use Rattle.std.proofs.lemmas.List.{length-map, get_or-map}
-use Rattle.std.proofs.lemmas.List.Elements.{filter-append, All-nil, All-cons}
-use Rattle.std.proofs.lemmas.Bool.{eqb-true, eqb-false, ne_eqb, cond-true, cond-false}
+use Rattle.std.proofs.lemmas.List.Elements.{filter-append, All-nil, All-cons, All-get_or}
+use Rattle.std.proofs.lemmas.Bool.{and_parts, eqb-true, eqb-false, ne_eqb, cond-true, cond-false}
 use Rattle.terms.specs.declared.Cell.{Cell}
 use Rattle.terms.specs.Shape.{goals}
 use Rattle.clauses.specs.Clauses.{OfPredicate, Low, Slim}
+use Rattle.records.specs.declared.gather.Listing.{Listing}
 use Rattle.records.specs.declared.Records.{Records}
 use Rattle.records.specs.declared.format.Record.{Record}
 use Rattle.records.specs.declared.fact.Fact.{Fact}
@@ -15,8 +18,8 @@ use Rattle.records.specs.declared.fact.Symbols.{Symbols}
 use Rattle.records.specs.declared.fact.Value.{Value}
 use Rattle.records.specs.declared.fact.Value.TheVariants.{Atom, Integer}
 use Rattle.records.specs.Faults.{records_of}
-use Rattle.records.specs.Facts.{cut, is_for, listed, record_facts, facts_of, facts_under, atom_fact, integer_fact, cells_of, value_cell}
-use Rattle.records.specs.Fit.{fits, all_fit, value_fits}
+use Rattle.records.specs.Facts.{cut, is_for, listed, record_facts, facts_of, facts_under, fact_of, cells_of, value_cell}
+use Rattle.records.specs.Fit.{fits, AllFit, value_fits}
 use Rattle.records.specs.Meaning.{list_of, record_clauses, Keeps}
 
 fact₀ : Fact
@@ -30,30 +33,33 @@ pub clause_is : (r : Records) (p n k : ℕ) (d : Fact) → k < length (list_of r
 unfolding record_clauses
 clause_is r p n k d h = get_or-map cells_of (list_of r p n) k d [] h
 
-pub fact_some : (r : Records) (p n k : ℕ) (fs : List Fact) (f : Fact) → fs ≡ list_of r p n → k < length fs → f ≡ slice_index_or fs k f
-    → (k < length (record_clauses r p n)) × (slice_index_or (record_clauses r p n) k [] ≡ cells_of f)
-fact_some r p n k fs f e h g =
-    let l = ap length e in
+-- the fact with a number among those of a predicate, if there is one
+pub fact_found : (r : Records) (p n k : ℕ) (o : Option Fact) → o ≡ slice_get (list_of r p n) k
+    → MatchOption o (length (record_clauses r p n) ≤ k) (λ f. (k < length (record_clauses r p n)) × (slice_index_or (record_clauses r p n) k [] ≡ cells_of f))
+fact_found r p n k o e =
     let c = clauses_count r p n in
-    (omega arith, clause_is r p n k f (omega arith) ∙ ap cells_of (ap (λ t. get_or t k f) (sym e) ∙ sym g))
+    elim ((slice_get_cases (list_of r p n) k).1) [
+      | inl (f, l, s, g) ↦
+          subst (λ (q : Option Fact). MatchOption q (length (record_clauses r p n) ≤ k) (λ f. (k < length (record_clauses r p n)) × (slice_index_or (record_clauses r p n) k [] ≡ cells_of f)))
+          (sym (e ∙ s)) (omega arith, clause_is r p n k f l ∙ ap cells_of g)
+      | inr (l, s) ↦
+          subst (λ (q : Option Fact). MatchOption q (length (record_clauses r p n) ≤ k) (λ f. (k < length (record_clauses r p n)) × (slice_index_or (record_clauses r p n) k [] ≡ cells_of f)))
+          (sym (e ∙ s)) (omega arith)
+    ]
 
 -- a predicate that is none of the three has no fact
-no_atom : (p y c : ℕ) (o : Option ℕ) → (p == y) ≡ false → filter (is_for p) (listed (atom_fact y c o)) ≡ []
-no_atom p y c None e = refl
-no_atom p y c (Some n) e = cond-false (y == p) _ _ (ne_eqb y p (λ k. eqb-false p y e (sym k)))
-
-no_integer : (p y c : ℕ) (o : Option ℕ) → (p == y) ≡ false → filter (is_for p) (listed (integer_fact y c o)) ≡ []
-no_integer p y c None e = refl
-no_integer p y c (Some n) e = cond-false (y == p) _ _ (ne_eqb y p (λ k. eqb-false p y e (sym k)))
+no_fact : (p y c : ℕ) (o : Option Value) → (p == y) ≡ false → filter (is_for p) (listed (fact_of y c o)) ≡ []
+no_fact p y c None e = refl
+no_fact p y c (Some v) e = cond-false (y == p) _ _ (ne_eqb y p (λ k. eqb-false p y e (sym k)))
 
 none_said : (s : Symbols) (p : ℕ) (r : Record) → (p == s.lot) ≡ false → (p == s.stage) ≡ false → (p == s.cycles) ≡ false → filter (is_for p) (record_facts s r) ≡ []
 none_said s p r e₁ e₂ e₃ =
-    let a = listed (atom_fact s.lot r.card r.lot) in
-    let b = listed (atom_fact s.stage r.card r.stage) in
-    let c = listed (integer_fact s.cycles r.card r.cycles) in
-    let ka = no_atom p s.lot r.card r.lot e₁ in
-    let kb = no_atom p s.stage r.card r.stage e₂ in
-    let kc = no_integer p s.cycles r.card r.cycles e₃ in
+    let a = listed (fact_of s.lot r.card (option_map Atom r.lot)) in
+    let b = listed (fact_of s.stage r.card (option_map Atom r.stage)) in
+    let c = listed (fact_of s.cycles r.card (option_map Integer r.cycles)) in
+    let ka = no_fact p s.lot r.card (option_map Atom r.lot) e₁ in
+    let kb = no_fact p s.stage r.card (option_map Atom r.stage) e₂ in
+    let kc = no_fact p s.cycles r.card (option_map Integer r.cycles) e₃ in
     filter-append (is_for p) a (b ++ c)
     ∙ (ap (λ t. t ++ filter (is_for p) (b ++ c)) ka ∙ (filter-append (is_for p) b c ∙ (ap (λ t. t ++ filter (is_for p) c) kb ∙ kc)))
 
@@ -92,50 +98,36 @@ lists_are s bytes a b c ea eb ec p n = two (n == 2)
 pub clauses_are : (s : Symbols) (bytes : List ℕ) (r : Records) → Keeps s bytes r → (p n : ℕ) → record_clauses r p n ≡ map cells_of (cut (facts_under s bytes p n))
 unfolding record_clauses
 clauses_are s bytes r h p n =
-    ap (λ (t : Symbols). map cells_of (cond (n == 2) (cond (p == t.lot) (vec_items r.lots) (cond (p == t.stage) (vec_items r.stages) (cond (p == t.cycles) (vec_items r.cycles) []))) [])) h.symbols
-    ∙ ap (map cells_of) (lists_are s bytes (vec_items r.lots) (vec_items r.stages) (vec_items r.cycles) h.lots h.stages h.cycles p n)
+    let a = vec_items r.lots.facts in
+    let b = vec_items r.stages.facts in
+    let c = vec_items r.cycles.facts in
+    let e : list_of r p n ≡ cond (n == 2) (cond (p == s.lot) a (cond (p == s.stage) b (cond (p == s.cycles) c []))) [] =
+    ap (λ (y : ℕ). cond (n == 2) (cond (p == y) a (cond (p == r.stages.symbol) b (cond (p == r.cycles.symbol) c []))) []) h.lots.under
+    ∙ (ap (λ (y : ℕ). cond (n == 2) (cond (p == s.lot) a (cond (p == y) b (cond (p == r.cycles.symbol) c []))) []) h.stages.under
+    ∙ ap (λ (y : ℕ). cond (n == 2) (cond (p == s.lot) a (cond (p == s.stage) b (cond (p == y) c []))) []) h.cycles.under) in
+    ap (map cells_of) (e ∙ lists_are s bytes a b c h.lots.facts h.stages.facts h.cycles.facts p n)
 
 -- what is kept of a predicate
 abbrev Kept : ℕ → List Fact → Type 0
-Kept p fs = (length fs ≤ 65535) × (all_fit p fs ≡ true)
+Kept p fs = (length fs ≤ 65535) × AllFit p fs
+
+-- the facts of a list, if it is the predicate's, or else the others
+kept_or : (p : ℕ) (l : Listing) (fs : List Fact) → AllFit l.symbol (vec_items l.facts) → Kept p fs → Kept p (cond (p == l.symbol) (vec_items l.facts) fs)
+kept_or p l fs h k = step (p == l.symbol) refl
+  where
+    step : (t : Bool) → (p == l.symbol) ≡ t → Kept p (cond t (vec_items l.facts) fs)
+    step true e = let n = l.facts.ok.0 in let f = l.few in (omega arith, subst (λ (q : ℕ). AllFit q (vec_items l.facts)) (sym (eqb-true p l.symbol e)) h)
+    step false e = k
 
 kept_list : (r : Records) (p n : ℕ) → Kept p (list_of r p n) × (0 < length (list_of r p n) → n ≡ 2)
-kept_list r p n = two (n == 2) refl
+kept_list r p n = two (n == 2) _ refl (kept_or p r.lots _ r.fit.0 (kept_or p r.stages _ r.fit.1 (kept_or p r.cycles [] r.fit.2 (omega arith, All-nil (λ f. fits p f ≡ true)))))
   where
-    moved : (y : ℕ) (fs : List Fact) → (p == y) ≡ true → length fs ≤ 65535 → all_fit y fs ≡ true → Kept p fs
-    moved y fs e l h = (l, subst (λ (q : ℕ). all_fit q fs ≡ true) (sym (eqb-true p y e)) h)
-
-    third : (t : Bool) → (p == r.symbols.cycles) ≡ t → Kept p (cond t (vec_items r.cycles) [])
-    third true e = let k = r.cycles.ok.0 in moved r.symbols.cycles (vec_items r.cycles) e (let f = r.few.2 in omega arith) r.fit.2
-    third false e = (omega arith, refl)
-
-    second : (t : Bool) → (p == r.symbols.stage) ≡ t → Kept p (cond t (vec_items r.stages) (cond (p == r.symbols.cycles) (vec_items r.cycles) []))
-    second true e = let k = r.stages.ok.0 in moved r.symbols.stage (vec_items r.stages) e (let f = r.few.1 in omega arith) r.fit.1
-    second false e = third (p == r.symbols.cycles) refl
-
-    first : (t : Bool) → (p == r.symbols.lot) ≡ t → Kept p (cond t (vec_items r.lots) (cond (p == r.symbols.stage) (vec_items r.stages) (cond (p == r.symbols.cycles) (vec_items r.cycles) [])))
-    first true e = let k = r.lots.ok.0 in moved r.symbols.lot (vec_items r.lots) e (let f = r.few.0 in omega arith) r.fit.0
-    first false e = second (p == r.symbols.stage) refl
-
-    two : (t : Bool) → (n == 2) ≡ t → Kept p (cond t (cond (p == r.symbols.lot) (vec_items r.lots) (cond (p == r.symbols.stage) (vec_items r.stages) (cond (p == r.symbols.cycles) (vec_items r.cycles) []))) []) × (0 < length (cond t (cond (p == r.symbols.lot) (vec_items r.lots) (cond (p == r.symbols.stage) (vec_items r.stages) (cond (p == r.symbols.cycles) (vec_items r.cycles) []))) []) → n ≡ 2)
-    two true e = (first (p == r.symbols.lot) refl, λ h. eqb-true n 2 e)
-    two false e = ((omega arith, refl), λ h. omega arith)
+    two : (t : Bool) (fs : List Fact) → (n == 2) ≡ t → Kept p fs → Kept p (cond t fs []) × (0 < length (cond t fs []) → n ≡ 2)
+    two true fs e k = (k, λ h. eqb-true n 2 e)
+    two false fs e k = ((omega arith, All-nil (λ f. fits p f ≡ true)), λ h. omega arith)
 
 pub records_short : (r : Records) (p n : ℕ) → length (record_clauses r p n) ≤ 65535
 records_short r p n = let c = clauses_count r p n in let k = (kept_list r p n).0.0 in omega arith
-
-left_true : (a b : Bool) → (a && b) ≡ true → a ≡ true
-left_true true b p = refl
-left_true false b p = p
-
-right_true : (a b : Bool) → (a && b) ≡ true → b ≡ true
-right_true true b p = p
-right_true false b p = let z : ◌≡◌ {A = ℕ} 0 1 = cc in let q : ⊥ = omega arith in elim q [ ]
-
-one_of : (p : ℕ) (fs : List Fact) (k : ℕ) (d : Fact) → k < length fs → all_fit p fs ≡ true → fits p (slice_index_or fs k d) ≡ true
-one_of p [] k d h e = let q : ⊥ = omega arith in elim q [ ]
-one_of p (f ∷ fs) zero d h e = left_true (fits p f) (all_fit p fs) e
-one_of p (f ∷ fs) (suc k) d h e = one_of p fs k d (omega arith) (right_true (fits p f) (all_fit p fs) e)
 
 abbrev head_cell : ℕ → Cell
 head_cell n = record { tag = 2; form = 0; arity = 2; value = n }
@@ -183,10 +175,10 @@ formed_cells p s c (Integer n) e hs hc hv =
 
 formed_fact : (p : ℕ) (f : Fact) → fits p f ≡ true → OfPredicate p 2 (cells_of f)
 formed_fact p f h =
-    let a = right_true (f.symbol == p) _ h in
-    let b = right_true (nat_lt f.symbol 65536) _ a in
-    formed_cells p f.symbol f.card f.value (eqb-true f.symbol p (left_true (f.symbol == p) _ h)) (left_true (nat_lt f.symbol 65536) _ a) (left_true (nat_lt f.card 65536) _ b)
-    (right_true (nat_lt f.card 65536) _ b)
+    let a = and_parts (f.symbol == p) _ h in
+    let b = and_parts (nat_lt f.symbol 65536) _ a.1 in
+    let c = and_parts (nat_lt f.card 65536) _ b.1 in
+    formed_cells p f.symbol f.card f.value (eqb-true f.symbol p a.0) b.0 c.0 c.1
 
 pub records_formed : (r : Records) (p n k : ℕ) → k < length (record_clauses r p n) → OfPredicate p n (slice_index_or (record_clauses r p n) k [])
 records_formed r p n k h =
@@ -194,4 +186,4 @@ records_formed r p n k h =
     let l : k < length (list_of r p n) = omega arith in
     let w = kept_list r p n in
     subst (λ (m : ℕ). OfPredicate p m (slice_index_or (record_clauses r p n) k [])) (sym (w.1 (omega arith)))
-    (subst (OfPredicate p 2) (sym (clause_is r p n k fact₀ l)) (formed_fact p (slice_index_or (list_of r p n) k fact₀) (one_of p (list_of r p n) k fact₀ l w.0.1)))
+    (subst (OfPredicate p 2) (sym (clause_is r p n k fact₀ l)) (formed_fact p (slice_index_or (list_of r p n) k fact₀) (All-get_or (λ f. fits p f ≡ true) (list_of r p n) k fact₀ l w.0.1)))

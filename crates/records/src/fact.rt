@@ -1,94 +1,63 @@
 // What a record says, as facts: of its card the lot, the stage and the cycles, each under a predicate of two arguments.
 ghost use Rattle.std.specs.Prelude.{◌≡◌, All};
 ghost use Rattle.clauses.specs.Clauses.{Low};
-ghost use Rattle.records.specs.Facts.{atom_fact, integer_fact, value_cell, cells_of};
+ghost use Rattle.records.specs.Facts.{fact_of, value_cell, cells_of};
 
 use terms::Cell;
 
 // The predicate symbols. Two of them may be the same.
-#[derive(Clone, Copy)]
+#[derive(Clone, Copy, Debug, Default, PartialEq, Eq)]
 pub struct Symbols {
     pub lot: u16,
     pub stage: u16,
     pub cycles: u16,
 }
 
-#[derive(Clone, Copy)]
+#[derive(Clone, Copy, Debug, PartialEq, Eq)]
 pub enum Value {
     Atom(u16),
     Integer(u32),
 }
 
-#[derive(Clone, Copy)]
+impl From<Value> for Cell {
+    ghost from_gives = { λ value cell. cell ≡ value_cell value };
+
+    fn from(value: Value) -> Cell {
+        match value {
+            Value::Atom(n) => Cell::atom(n as u32),
+            Value::Integer(n) => Cell::integer(n),
+        }
+    }
+}
+
+#[derive(Clone, Copy, Debug, PartialEq, Eq)]
 pub struct Fact {
     pub(crate) symbol: u16,
     pub(crate) card: u16,
     pub(crate) value: Value,
 }
 
-pub(crate) fn atom_fact(symbol: u16, card: u16, value: Option<u16>) -> Option<Fact>
-    ensures { result ≡ atom_fact symbol card value }
-{
-    match value {
-        Some(n) => Some(Fact {
+impl Fact {
+    // What is said of a card under a symbol, if anything is.
+    pub(crate) fn of(symbol: u16, card: u16, value: Option<Value>) -> Option<Fact>
+        ensures { result ≡ fact_of symbol card value }
+    {
+        value.map(|value| Fact {
             symbol,
             card,
-            value: Value::Atom(n),
-        }),
-        None => None,
+            value,
+        })
     }
-}
 
-pub(crate) fn integer_fact(symbol: u16, card: u16, value: Option<u32>) -> Option<Fact>
-    ensures { result ≡ integer_fact symbol card value }
-{
-    match value {
-        Some(n) => Some(Fact {
-            symbol,
-            card,
-            value: Value::Integer(n),
-        }),
-        None => None,
+    // The fact's predicate and its two arguments, the card first.
+    pub(crate) fn cells(self) -> [Cell; 3]
+        ensures value { result ≡ cells_of self }
+        ensures low { All Low result }
+    {
+        [
+            Cell::symbol(self.symbol as u32, 2),
+            Cell::atom(self.card as u32),
+            self.value.into(),
+        ]
     }
-}
-
-fn value_cell(value: Value) -> Cell
-    ensures { result ≡ value_cell value }
-{
-    match value {
-        Value::Atom(n) => Cell {
-            tag: 1,
-            form: 2,
-            arity: 0,
-            value: n as u32,
-        },
-        Value::Integer(n) => Cell {
-            tag: 1,
-            form: 0,
-            arity: 0,
-            value: n,
-        },
-    }
-}
-
-// The fact's predicate and its two arguments, the card first.
-pub(crate) fn cells_of(fact: Fact) -> [Cell; 3]
-    ensures value { result ≡ cells_of fact }
-    ensures low { All Low result }
-{
-    [
-        Cell {
-            tag: 2,
-            form: 0,
-            arity: 2,
-            value: fact.symbol as u32,
-        },
-        Cell {
-            tag: 1,
-            form: 2,
-            arity: 0,
-            value: fact.card as u32,
-        },
-        value_cell(fact.value),
-    ]
 }

@@ -1,10 +1,9 @@
 // The bench's byte records as a source of facts.
 #![tactic(auto)]
 
-ghost use Rattle.std.specs.Prelude.{◌≡◌, ◌≤◌, true, vec_len};
-ghost use Rattle.records.specs.Fit.{all_fit};
+ghost use Rattle.records.specs.Fit.{AllFit};
 
-use fact::{Fact, Symbols};
+use gather::Listing;
 
 pub mod fact;
 pub mod fault;
@@ -16,10 +15,8 @@ pub mod source;
 // The facts under each of the three symbols, in order. Where symbols are the same, so are their lists.
 #[derive(Drop)]
 pub struct Records {
-    pub(crate) symbols: Symbols,
-    pub(crate) lots: Vec<Fact>,
-    pub(crate) stages: Vec<Fact>,
-    pub(crate) cycles: Vec<Fact>,
-    ghost few: { (vec_len lots ≤ 65535) × (vec_len stages ≤ 65535) × (vec_len cycles ≤ 65535) },
-    ghost fit: { (all_fit symbols.lot lots.items ≡ true) × (all_fit symbols.stage stages.items ≡ true) × (all_fit symbols.cycles cycles.items ≡ true) },
+    pub(crate) lots: Listing,
+    pub(crate) stages: Listing,
+    pub(crate) cycles: Listing,
+    ghost fit: { AllFit lots.symbol lots.facts.items × AllFit stages.symbol stages.facts.items × AllFit cycles.symbol cycles.facts.items },
 }

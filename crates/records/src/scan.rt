@@ -10,22 +10,16 @@ use crate::format::{fields_len, map_fits, record_in};
 fn fault_in(bytes: &[u8]) -> Option<Cause>
     ensures { result ≡ fault_in bytes.now }
 {
-    if bytes.len() == 0 {
-        return None;
-    }
-    if !map_fits(bytes[0]) {
-        return Some(Cause::Map);
-    }
-    if bytes.len() <= fields_len(bytes[0]) {
-        return Some(Cause::Short);
-    }
-    match record_in(bytes).cycles {
-        Some(n) => if n >= 0x8000_0000 {
-            Some(Cause::Cycles)
-        } else {
-            None
-        },
-        None => None,
+    if bytes.is_empty() {
+        None
+    } else if !map_fits(bytes[0]) {
+        Some(Cause::Map)
+    } else if bytes.len() <= fields_len(bytes[0]) {
+        Some(Cause::Short)
+    } else if record_in(bytes).cycles.is_some_and(|n| n >= 0x8000_0000) {
+        Some(Cause::Cycles)
+    } else {
+        None
     }
 }
 
@@ -43,11 +37,9 @@ pub(crate) fn first_bad(bytes: &[u8]) -> usize
     ensures within { result ≤ length bytes.now }
 {
     let mut at: usize = 0;
+    // not byte by byte: each record is as long as its map says
     let end = loop {
-        if at >= bytes.len() {
-            break at;
-        }
-        if let Some(_) = fault_at(bytes, at) {
+        if at >= bytes.len() || fault_at(bytes, at).is_some() {
             break at;
         }
         at += 1 + fields_len(bytes[at]);
@@ -60,15 +52,10 @@ pub fn check(bytes: &[u8]) -> Option<BenchFault>
     ensures { result ≡ fault_of bytes.now }
 {
     let at = first_bad(bytes);
-    match fault_at(bytes, at) {
-        Some(cause) => Some(BenchFault { cause, at }),
-        None => None,
-    }
+    fault_at(bytes, at).map(|cause| BenchFault { cause, at })
 }
 
 // Every byte string is good records one after the other and a rest that has no good one at its start; these parts have the records, the end and the fault.
-pub fn parting_stands() -> u8
+pub fn parting_stands()
     ensures { PartingLaw }
-{
-    0
-}
+{}

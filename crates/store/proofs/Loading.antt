@@ -1,10 +1,9 @@
--- The standing equations, one after another among the cells of a search.
-use Rattle.std.proofs.Common.{◌≡◌, ℕ, ◌+◌, ◌-◌, ◌*◌, ◌<◌, ◌≤◌, true, cond, eqb, leb, List, [], ◌∷◌, ◌++◌, map, length, get_or, take, drop, set, is_some, Some, None, All, Option, sym, refl, ap, ◌∙◌, subst, ap₂, arith}
-use Rattle.std.proofs.lemmas.List.Elements.{All-head, All-tail}
-use Rattle.std.specs.List.{flat_map}
-use Rattle.std.proofs.lemmas.List.{append_assoc, append-nil, length-append, length-take-le, drop_at, drop-drop, get_or-take, take_more, take_more_set, flat_map_more}
-use Rattle.std.proofs.lemmas.List.Elements.{All-from_all_within, All-take}
-use Rattle.std.proofs.lemmas.Bool.{and_parts, and_from, eqb-true, leb-true, le-leb, eq-eqb, cond-true}
+-- The equations of a table, one after another among its cells.
+use Rattle.std.proofs.Common.{◌≡◌, ℕ, zero, suc, ◌+◌, ◌-◌, ◌*◌, ◌<◌, ◌≤◌, true, leb, List, [], ◌∷◌, ◌++◌, length, get_or, take, drop, is_some, Some, None, All, Option, sym, refl, ap, ◌∙◌, subst, ap₂, arith}
+use Rattle.std.proofs.lemmas.List.Elements.{All-head, All-tail, All-push, All-take}
+use Rattle.std.proofs.lemmas.List.{append_assoc, append-nil, length-append, take-append-drop, take_at, drop_at, drop-drop, flat_map_more}
+use Rattle.std.proofs.lemmas.Bool.{and_from, le-leb}
+use Rattle.std.proofs.lemmas.Grind.{flat_map-append}
 use Rattle.terms.specs.declared.Cell.{Cell}
 use Rattle.terms.specs.Shape.{skip, nothing_left, second_term, two_terms, all_low}
 use Rattle.terms.proofs.Laws.{skip_more, goals_read}
@@ -14,7 +13,7 @@ use Rattle.graphs.specs.Cells.{all_fit}
 use Rattle.graphs.specs.Flat.{flat, Stands}
 use Rattle.graphs.specs.Whole.{Whole}
 use Rattle.graphs.proofs.Spelt.{whole_terms}
-use Rattle.graphs.proofs.Wholes.{whole_append}
+use Rattle.graphs.proofs.Wholes.{whole_append, fit_append}
 use Rattle.unification.specs.declared.Equation as places
 use Rattle.unification.specs.Several.{SpeltAt}
 use Rattle.programs.specs.Spelling.{spell_equation}
@@ -22,51 +21,18 @@ use Rattle.programs.proofs.Equations.{parse_equation, spell_equation_injective}
 use Rattle.programs.proofs.Lows.{equation_below}
 use Rattle.resolution.specs.State.{stands}
 use Rattle.frames.proofs.Questions.{fit_goals}
-use Rattle.store.specs.declared.entry.Entry.{Entry}
-use Rattle.store.specs.Entries.{cells_of, is_place, sound, Sound, places_from}
+use Rattle.store.specs.Entries.{Sound, place_of, second_of, joined, places_from, next_place, cut_at, Laid}
 use Rattle.store.specs.Calls.{Spelt}
 
--- what it says that an entry is sound
-pub record Parts (e : Entry) : Type 0 where
-  pub cells : length e.cells ≡ 32
-  pub small : e.size ≤ 32
-  pub two : two_terms (cells_of e) ≡ Some e.second
-  pub low : all_low (cells_of e) ≡ true
+-- sound cells spell one equation
+pub spells : (e : List Cell) → Sound e → (q : Equation) × (spell_equation q ≡ e) × (second_of e ≡ length (flat q.left))
+spells e h = let p = parse_equation (second_of e) e h.1 in (p.0, sym p.1, p.2)
 
-pub parts : (e : Entry) → Sound e → Parts e
-parts e h =
-    let p = and_parts (eqb (length e.cells) 32) _ h in
-    let q = and_parts (leb e.size 32) _ p.1 in
-    let r = and_parts (is_place (two_terms (cells_of e)) e.second) _ q.1 in
-    record { cells = eqb-true (length e.cells) 32 p.0; small = leb-true e.size 32 q.0; two = at (two_terms (cells_of e)) r.0; low = r.1 }
-  where
-    at : (o : Option ℕ) → is_place o e.second ≡ true → o ≡ Some e.second
-    at None h = absurd (let z : ◌≡◌ {A = ℕ} 0 1 = cc in omega arith)
-    at (Some q) h = ap Some (eqb-true q e.second h)
-
-pub sound_of : (e : Entry) → length e.cells ≡ 32 → e.size ≤ 32 → two_terms (cells_of e) ≡ Some e.second → all_low (cells_of e) ≡ true → Sound e
-sound_of e c s t l =
-    and_from (eqb (length e.cells) 32) _ (eq-eqb _ _ c)
-    (and_from (leb e.size 32) _ (le-leb _ _ s) (and_from (is_place (two_terms (cells_of e)) e.second) _ (ap (λ o. is_place o e.second) t ∙ eq-eqb e.second e.second refl) l))
-
-pub entry_length : (e : Entry) → Sound e → length (cells_of e) ≡ e.size
-entry_length e h = let p = parts e h in let c = p.cells in let s = p.small in length-take-le e.size e.cells (omega arith)
-
--- an entry spells one equation
-pub spells : (e : Entry) → Sound e → (q : Equation) × (spell_equation q ≡ cells_of e) × (e.second ≡ length (flat q.left))
-spells e h = let p = parse_equation e.second (cells_of e) (parts e h).two in (p.0, sym p.1, p.2)
-
-pub second_place : (e : Entry) → Sound e → (q : Equation) → spell_equation q ≡ cells_of e → e.second ≡ length (flat q.left)
+pub second_place : (e : List Cell) → Sound e → (q : Equation) → spell_equation q ≡ e → second_of e ≡ length (flat q.left)
 second_place e h q s =
     let p = spells e h in
     let same : p.0 ≡ q = spell_equation_injective p.0 q (p.1 ∙ sym s) in
     p.2 ∙ ap (λ d. length (flat d.left)) same
-
-pub second_inside : (e : Entry) → Sound e → e.second ≤ 32
-second_inside e h =
-    let p = spells e h in
-    let n = length-append (flat p.0.left) (flat p.0.right) in
-    let m = ap length p.1 in let l = entry_length e h in let s = (parts e h).small in let t = p.2 in omega arith
 
 -- two terms are read to the end
 two_skip : (cs : List Cell) (p : ℕ) → two_terms cs ≡ Some p → skip 2 cs ≡ Some []
@@ -81,30 +47,23 @@ two_skip cs p = first (skip 1 cs) refl
     first None h e = absurd (let z : ◌≡◌ {A = ℕ} 0 1 = cc in omega arith)
     first (Some mid) h e = skip_more 1 1 cs mid h ∙ second mid (length cs - length mid) (skip 1 mid) refl e
 
-pub entry_fit : (e : Entry) → Sound e → all_fit (cells_of e) ≡ true
+pub entry_fit : (e : List Cell) → Sound e → all_fit e ≡ true
 entry_fit e h =
-    let p = parts e h in
-    let s = two_skip (cells_of e) e.second p.two in
-    fit_goals 0 2 (cells_of e) (ap is_some (goals_read 0 2 (cells_of e) [] s)) p.low
+    let s = two_skip e (second_of e) h.1 in
+    fit_goals 0 2 e (ap is_some (goals_read 0 2 e [] s)) h.2
 
--- one equation more
-pub places_push : (at : ℕ) (es : List Entry) (e : Entry)
-    → places_from at (es ++ (e ∷ [])) ≡ places_from at es ++ (record { left = at + length (flat_map cells_of es); right = at + length (flat_map cells_of es) + e.second } ∷ [])
-places_push at [] e = let z : at + 0 ≡ at = omega arith in ap (λ n. record { left = n; right = n + e.second } ∷ []) (sym z)
-places_push at (d ∷ ds) e =
-    let n = length-append (cells_of d) (flat_map cells_of ds) in
-    let z : at + length (cells_of d) + length (flat_map cells_of ds) ≡ at + length (flat_map cells_of (d ∷ ds)) = omega arith in
-    ap (λ ps. record { left = at; right = at + d.second } ∷ ps)
-    (places_push (at + length (cells_of d)) ds e ∙ ap (λ n. places_from (at + length (cells_of d)) ds ++ (record { left = n; right = n + e.second } ∷ [])) z)
+pub joined_fit : (es : List (List Cell)) → All Sound es → all_fit (joined es) ≡ true
+joined_fit [] h = refl
+joined_fit (e ∷ es) h = fit_append e (joined es) (entry_fit e (All-head Sound e es h)) (joined_fit es (All-tail Sound e es h))
 
-pub loaded_few : (es : List Entry) → All Sound es → length (flat_map cells_of es) ≤ 32 * length es
-loaded_few [] h = omega arith
-loaded_few (e ∷ es) h =
-    let n = length-append (cells_of e) (flat_map cells_of es) in
-    let a = All-head Sound e es h in let l = entry_length e a in let s = (parts e a).small in let r = loaded_few es (All-tail Sound e es h) in omega arith
+pub joined_few : (es : List (List Cell)) → All Sound es → length (joined es) ≤ 32 * length es
+joined_few [] h = omega arith
+joined_few (e ∷ es) h =
+    let n = length-append e (joined es) in
+    let s = (All-head Sound e es h).0 in let r = joined_few es (All-tail Sound e es h) in omega arith
 
 -- the equations that the entries spell
-pub equations_of : (es : List Entry) → All Sound es → (E : Eqs) × Spelt E (map cells_of es)
+pub equations_of : (es : List (List Cell)) → All Sound es → (E : Eqs) × Spelt E es
 equations_of [] h = ([], refl)
 equations_of (e ∷ es) h = let p = spells e (All-head Sound e es h) in let r = equations_of es (All-tail Sound e es h) in (p.0 ∷ r.0, ap₂ ◌∷◌ p.1 r.1)
 
@@ -112,92 +71,156 @@ first_of : (x y : List Cell) (xs ys : List (List Cell)) → x ∷ xs ≡ y ∷ y
 first_of x y xs ys e = (ap (λ zs. get_or zs 0 []) e, ap (drop 1) e)
 
 -- each stands where its places say
-module _ (e : Entry) (q : Equation) (rest pre post : List Cell) (s : spell_equation q ≡ cells_of e) (n : e.second ≡ length (flat q.left)) where
+module _ (e : List Cell) (q : Equation) (rest pre post : List Cell) (s : spell_equation q ≡ e) (n : second_of e ≡ length (flat q.left)) where
   abbrev behind : List Cell
-  behind = (cells_of e ++ rest) ++ post
+  behind = (e ++ rest) ++ post
 
   open_left : drop (length pre) (pre ++ behind) ≡ flat q.left ++ (flat q.right ++ (rest ++ post))
   open_left =
       drop_at pre behind (length pre) refl
-      ∙ (append_assoc (cells_of e) rest post ∙ (ap (λ xs. xs ++ (rest ++ post)) (sym s) ∙ append_assoc (flat q.left) (flat q.right) (rest ++ post)))
+      ∙ (append_assoc e rest post ∙ (ap (λ xs. xs ++ (rest ++ post)) (sym s) ∙ append_assoc (flat q.left) (flat q.right) (rest ++ post)))
 
   left_stands : Stands (pre ++ behind) (length pre) q.left
   left_stands = (flat q.right ++ (rest ++ post), open_left)
 
-  right_stands : Stands (pre ++ behind) (length pre + e.second) q.right
+  right_stands : Stands (pre ++ behind) (length pre + second_of e) q.right
   right_stands = (
     rest ++ post,
-    sym (drop-drop e.second (length pre) (pre ++ behind))
-        ∙ (ap (drop e.second) open_left ∙ drop_at (flat q.left) (flat q.right ++ (rest ++ post)) e.second (sym n)),
+    sym (drop-drop (second_of e) (length pre) (pre ++ behind))
+        ∙ (ap (drop (second_of e)) open_left ∙ drop_at (flat q.left) (flat q.right ++ (rest ++ post)) (second_of e) (sym n)),
   )
 
-pub spelt_at : (es : List Entry) → All Sound es → (E : Eqs) → Spelt E (map cells_of es) → (pre post : List Cell)
-    → SpeltAt (pre ++ (flat_map cells_of es ++ post)) (places_from (length pre) es) E
+pub spelt_at : (es : List (List Cell)) → All Sound es → (E : Eqs) → Spelt E es → (pre post : List Cell)
+    → SpeltAt (pre ++ (joined es ++ post)) (places_from (length pre) es) E
 spelt_at [] h [] s pre post = tt
 spelt_at [] h (q ∷ E) s pre post = let z = ap length s in absurd (omega arith)
 spelt_at (e ∷ es) h [] s pre post = let z = ap length s in absurd (omega arith)
 spelt_at (e ∷ es) h (q ∷ E) s pre post =
     let f = first_of _ _ _ _ s in
     let n = second_place e (All-head Sound e es h) q f.0 in
-    let rest = flat_map cells_of es in
-    let k : length (pre ++ cells_of e) ≡ length pre + length (cells_of e) = length-append pre (cells_of e) in
-    let m : (pre ++ cells_of e) ++ (rest ++ post) ≡ pre ++ ((cells_of e ++ rest) ++ post) = append_assoc pre (cells_of e) (rest ++ post) ∙ ap (λ xs. pre ++ xs) (sym (append_assoc (cells_of e) rest post)) in (
+    let rest = joined es in
+    let k : length (pre ++ e) ≡ length pre + length e = length-append pre e in
+    let m : (pre ++ e) ++ (rest ++ post) ≡ pre ++ ((e ++ rest) ++ post) = append_assoc pre e (rest ++ post) ∙ ap (λ xs. pre ++ xs) (sym (append_assoc e rest post)) in (
       left_stands e q rest pre post f.0 n,
       right_stands e q rest pre post f.0 n,
-      subst (λ cs. SpeltAt cs (places_from (length pre + length (cells_of e)) es) E) m
-          (subst (λ i. SpeltAt ((pre ++ cells_of e) ++ (rest ++ post)) (places_from i es) E) k (spelt_at es (All-tail Sound e es h) E f.1 (pre ++ cells_of e) post)),
+      subst (λ cs. SpeltAt cs (places_from (length pre + length e) es) E) m
+          (subst (λ i. SpeltAt ((pre ++ e) ++ (rest ++ post)) (places_from i es) E) k (spelt_at es (All-tail Sound e es h) E f.1 (pre ++ e) post)),
     )
 
 whole_term : (t : Term) → Whole (flat t)
 whole_term t = subst Whole (append-nil (flat t)) (whole_terms (more t none))
 
-pub loaded_whole : (es : List Entry) (E : Eqs) → Spelt E (map cells_of es) → Whole (flat_map cells_of es)
+pub loaded_whole : (es : List (List Cell)) (E : Eqs) → Spelt E es → Whole (joined es)
 loaded_whole [] E s = whole_terms none
 loaded_whole (e ∷ es) [] s = let z = ap length s in absurd (omega arith)
 loaded_whole (e ∷ es) (q ∷ E) s =
     let f = first_of _ _ _ _ s in
-    whole_append (cells_of e) (flat_map cells_of es) (subst Whole f.0 (whole_append (flat q.left) (flat q.right) (whole_term q.left) (whole_term q.right))) (loaded_whole es E f.1)
+    whole_append e (joined es) (subst Whole f.0 (whole_append (flat q.left) (flat q.right) (whole_term q.left) (whole_term q.right))) (loaded_whole es E f.1)
 
-pub equations_below : (es : List Entry) → All Sound es → (E : Eqs) → Spelt E (map cells_of es) → EqsBelow 32 E
+pub equations_below : (es : List (List Cell)) → All Sound es → (E : Eqs) → Spelt E es → EqsBelow 32 E
 equations_below es h [] s = tt
 equations_below [] h (q ∷ E) s = let z = ap length s in absurd (omega arith)
 equations_below (e ∷ es) h (q ∷ E) s =
     let f = first_of _ _ _ _ s in
-    (equation_below q (ap all_low f.0 ∙ (parts e (All-head Sound e es h)).low), equations_below es (All-tail Sound e es h) E f.1)
+    (equation_below q (ap all_low f.0 ∙ (All-head Sound e es h).2), equations_below es (All-tail Sound e es h) E f.1)
 
-pub standing_sound : (es : List Entry) (n : ℕ) → n ≤ length es → ((k : ℕ) (d : Entry) → k < n → Sound (get_or es k d)) → All Sound (take n es)
-standing_sound es n h f =
-    let l = length-take-le n es h in
-    All-from_all_within Sound (take n es) (λ k d a b. let g : get_or (take n es) k d ≡ get_or es k d = get_or-take n es k d (omega arith) in ap sound g ∙ f k d (omega arith))
+-- The places.
 
--- there is room for each
-pub has_room : (es : List Entry) (i : ℕ) (e : Entry) (cells slice : List Cell) → All Sound es → length es ≤ 16 → i < length es → Sound e → slice ≡ cells_of e → cells ≡ flat_map cells_of (take i es)
-    → stands cells slice ≡ true
-has_room es i e cells slice h few l s q c =
-    let a = loaded_few (take i es) (All-take Sound i es h) in
-    let b = length-take-le i es (omega arith) in
-    let m = ap length c in let n = ap length q in let k = entry_length e s in let z = (parts e s).small in
-    and_from (leb (length cells + length slice) 512) _ (le-leb (length cells + length slice) 512 (omega arith)) (ap all_fit q ∙ entry_fit e s)
+abbrev places_at : (at : ℕ) (e : List Cell) → places.Equation
+places_at at e = record { left = at; right = at + second_of e }
 
--- one more is put after the others
-pub loaded_more : (es : List Entry) (i : ℕ) (e : Entry) (cells slice cells' : List Cell) (ps : List places.Equation) (at : ℕ) → i < length es → i < length ps → e ≡ get_or es i e → slice ≡ cells_of e
-    → stands cells slice ≡ true → cells ≡ flat_map cells_of (take i es) → cells' ≡ cond (stands cells slice) (cells ++ slice) cells → Some at ≡ cond (stands cells slice) (Some (length cells)) None
-    → take i ps ≡ places_from 0 (take i es)
-    → (cells' ≡ flat_map cells_of (take (i + 1) es)) × (take (i + 1) (set ps i (record { left = at; right = at + e.second })) ≡ places_from 0 (take (i + 1) es))
-loaded_more es i e cells slice cells' ps at h k g q r c c' a p =
-    let t : take (i + 1) es ≡ take i es ++ (e ∷ []) = take_more es i e h ∙ ap (λ x. take i es ++ (x ∷ [])) (sym g) in
-    let s : Some at ≡ Some (length cells) = a ∙ cond-true (stands cells slice) _ _ r in
-    let n : at ≡ length cells = cc in
-    let m : at ≡ 0 + length (flat_map cells_of (take i es)) = let z = ap length c in omega arith in (
-      c' ∙ (cond-true (stands cells slice) _ _ r ∙ (ap₂ ◌++◌ c q ∙ (flat_map_more cells_of [] (take i es) e ∙ ap (flat_map cells_of) (sym t)))),
-      take_more_set ps i _ k
-          ∙ (ap (λ xs. xs ++ (record { left = at; right = at + e.second } ∷ [])) p
-          ∙ (ap (λ j. places_from 0 (take i es) ++ (record { left = j; right = j + e.second } ∷ [])) m ∙ (sym (places_push 0 (take i es) e) ∙ ap (places_from 0) (sym t)))),
-    )
+places_push : (at : ℕ) (es : List (List Cell)) (e : List Cell) → places_from at (es ++ (e ∷ [])) ≡ places_from at es ++ (places_at (at + length (joined es)) e ∷ [])
+places_push at [] e = let z : at + 0 ≡ at = omega arith in ap (λ n. places_at n e ∷ []) (sym z)
+places_push at (d ∷ ds) e =
+    let n = length-append d (joined ds) in
+    let z : at + length d + length (joined ds) ≡ at + length (joined (d ∷ ds)) = omega arith in
+    ap (λ ps. places_at at d ∷ ps) (places_push (at + length d) ds e ∙ ap (λ n. places_from (at + length d) ds ++ (places_at n e ∷ [])) z)
 
--- the cells of an entry as a slice has them
-abbrev pub part : Entry → List Cell
-part e = take (e.size - 0) e.cells
+places_take : (n at : ℕ) (es : List (List Cell)) → take n (places_from at es) ≡ places_from at (take n es)
+places_take zero at es = refl
+places_take (suc n) at [] = refl
+places_take (suc n) at (e ∷ es) = ap (λ ps. places_at at e ∷ ps) (places_take n (at + length e) es)
 
-pub part_is : (e : Entry) → part e ≡ cells_of e
-part_is e = let z : e.size - 0 ≡ e.size = omega arith in ap (λ n. take n e.cells) z
+places_left : (at n : ℕ) (es : List (List Cell)) (d : places.Equation) → n < length es → (get_or (places_from at es) n d).left ≡ at + length (joined (take n es))
+places_left at n [] d h = absurd (omega arith)
+places_left at zero (e ∷ es) d h = omega arith
+places_left at (suc n) (e ∷ es) d h =
+    let l = length-append e (joined (take n es)) in
+    let r = places_left (at + length e) n es d (omega arith) in
+    omega arith
+
+next_is : (at n : ℕ) (es : List (List Cell)) → n ≡ at + length (joined es) → next_place (places_from at es) n ≡ at
+next_is at n [] e = omega arith
+next_is at n (x ∷ es) e = refl
+
+-- the cells are cut where they were joined
+cut_joined : (pre : List Cell) (es : List (List Cell)) → cut_at (places_from (length pre) es) (pre ++ joined es) ≡ es
+cut_joined pre [] = refl
+cut_joined pre (e ∷ es) = ap₂ ◌∷◌ first (rest (cut_joined (pre ++ e) es))
+  where
+    n : ℕ
+    n = length pre + length e
+
+    cells : List Cell
+    cells = pre ++ (e ++ joined es)
+
+    parted : cells ≡ (pre ++ e) ++ joined es
+    parted = sym (append_assoc pre e (joined es))
+
+    long : length (pre ++ e) ≡ n
+    long = length-append pre e
+
+    next : next_place (places_from n es) (length cells) ≡ n
+    next = next_is n (length cells) es (ap length parted ∙ (length-append (pre ++ e) (joined es) ∙ ap (λ k. k + length (joined es)) long))
+
+    first : drop (length pre) (take (next_place (places_from n es) (length cells)) cells) ≡ e
+    first =
+        ap (λ k. drop (length pre) (take k cells)) next
+        ∙ (ap (λ xs. drop (length pre) (take n xs)) parted ∙ (ap (drop (length pre)) (take_at (pre ++ e) (joined es) n long) ∙ drop_at pre e (length pre) refl))
+
+    rest : cut_at (places_from (length (pre ++ e)) es) ((pre ++ e) ++ joined es) ≡ es → cut_at (places_from n es) cells ≡ es
+    rest again = ap (cut_at (places_from n es)) parted ∙ (ap (λ k. cut_at (places_from k es) ((pre ++ e) ++ joined es)) (sym long) ∙ again)
+
+pub cut_length : (ps : List places.Equation) (cells : List Cell) → length (cut_at ps cells) ≡ length ps
+cut_length [] cells = refl
+cut_length (p ∷ ps) cells = ap suc (cut_length ps cells)
+
+-- sound equations that are laid one after another are those that are cut out again
+pub laid : (es : List (List Cell)) (cells : List Cell) (ps : List places.Equation) → All Sound es → cells ≡ joined es → ps ≡ places_from 0 es → (cut_at ps cells ≡ es) × Laid cells ps
+laid es cells ps h w p =
+    let e : cut_at ps cells ≡ es = ap₂ cut_at p w ∙ cut_joined [] es in
+    (e, (subst (All Sound) (sym e) h, w ∙ ap joined (sym e), p ∙ ap (places_from 0) (sym e)))
+
+pub laid_few : (cells : List Cell) (ps : List places.Equation) → Laid cells ps → length cells ≤ 32 * length ps
+laid_few cells ps l = let n = joined_few (cut_at ps cells) l.0 in let m = ap length l.1 in let k = cut_length ps cells in omega arith
+
+-- one equation more
+pub laid_more : (cells new cells' : List Cell) (left second : ℕ) (ps ps' : List places.Equation) → Laid cells ps → Sound new → two_terms new ≡ Some second → left ≡ length cells → cells' ≡ cells ++ new
+    → ps' ≡ ps ++ (record { left = left; right = left + second } ∷ []) → (cut_at ps' cells' ≡ cut_at ps cells ++ (new ∷ [])) × Laid cells' ps'
+laid_more cells new cells' left second ps ps' l s t f c p =
+    let es = cut_at ps cells in
+    let at : 0 + length (joined es) ≡ left = let z = ap length l.1 in omega arith in
+    let two : second ≡ second_of new = ap place_of (sym t) in
+    let w : cells' ≡ joined (es ++ (new ∷ [])) = c ∙ (ap (λ xs. xs ++ new) l.1 ∙ flat_map_more (λ (xs : List Cell). xs) [] es new) in
+    let q : ps' ≡ places_from 0 (es ++ (new ∷ [])) =
+    p ∙ (ap₂ (λ qs (k : ℕ). qs ++ (record { left = left; right = left + k } ∷ [])) l.2 two
+    ∙ (ap (λ (k : ℕ). places_from 0 es ++ (places_at k new ∷ [])) (sym at) ∙ sym (places_push 0 es new))) in
+    laid (es ++ (new ∷ [])) cells' ps' (All-push Sound es new l.0 s) w q
+
+-- the first equations alone
+pub laid_less : (cells cells' : List Cell) (n : ℕ) (d : places.Equation) (ps ps' : List places.Equation) → Laid cells ps → n < length ps → cells' ≡ take ((get_or ps n d).left) cells → ps' ≡ take n ps
+    → (cut_at ps' cells' ≡ take n (cut_at ps cells)) × Laid cells' ps'
+laid_less cells cells' n d ps ps' l h c p =
+    let es = cut_at ps cells in
+    let k = cut_length ps cells in
+    let left : (get_or ps n d).left ≡ length (joined (take n es)) = let z = ap (λ qs. (get_or qs n d).left) l.2 ∙ places_left 0 n es d (omega arith) in omega arith in
+    let parted : cells ≡ joined (take n es) ++ joined (drop n es) = l.1 ∙ (ap joined (sym (take-append-drop n es)) ∙ flat_map-append (λ (xs : List Cell). xs) (take n es) (drop n es)) in
+    let w : cells' ≡ joined (take n es) = c ∙ (ap₂ take left parted ∙ take_at (joined (take n es)) (joined (drop n es)) (length (joined (take n es))) refl) in
+    let q : ps' ≡ places_from 0 (take n es) = p ∙ (ap (take n) l.2 ∙ places_take n 0 es) in
+    laid (take n es) cells' ps' (All-take Sound n es l.0) w q
+
+-- the cells of few sound equations have their place in a search in which none stand
+pub has_room : (es : List (List Cell)) (before cells : List Cell) → All Sound es → length es ≤ 16 → before ≡ [] → cells ≡ joined es → stands before cells ≡ true
+has_room es before cells h few b q =
+    let n = joined_few es h in let m = ap length b in let k = ap length q in
+    and_from (leb (length before + length cells) 512) _ (le-leb (length before + length cells) 512 (omega arith)) (ap all_fit q ∙ joined_fit es h)

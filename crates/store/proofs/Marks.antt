@@ -1,9 +1,8 @@
 -- What each call hands on: few entries, each an equation, and marks that rise and never pass the entries.
-use Rattle.std.proofs.Common.{◌≡◌, ℕ, ◌+◌, ◌-◌, ◌<◌, ◌≤◌, true, List, [], ◌∷◌, ◌++◌, map, length, get_or, take, drop, Some, None, Ok, Err, All, Option, Result, sym, refl, ap, ◌∙◌, subst, ap₂, ⊎_elim, arith}
+use Rattle.std.proofs.Common.{◌≡◌, ℕ, ◌<◌, ◌≤◌, true, List, [], ◌∷◌, map, length, get_or, take, drop, Some, Ok, Err, All, Result, sym, refl, ap, ◌∙◌, subst, ap₂, arith}
 use Rattle.std.proofs.lemmas.List.Elements.{All-nil, All-head, All-tail}
-use Rattle.std.proofs.lemmas.List.{length_push, length-take-le, get_or_append_left, get_or_push, get_or-take}
+use Rattle.std.proofs.lemmas.List.{length_push, length-take-le}
 use Rattle.std.proofs.lemmas.List.Elements.{All-push, All-take}
-use Rattle.std.proofs.lemmas.Bool.{cases_eq}
 use Rattle.terms.specs.declared.Cell.{Cell}
 use Rattle.terms.specs.Shape.{two_terms, all_low}
 use Rattle.typing.specs.Terms.{Eqs, Signature}
@@ -18,6 +17,7 @@ use Rattle.store.specs.Judged.{judged}
 use Rattle.store.specs.Model.{Model, opened, but_last, newest, with_entry, with_mark, without_mark, cut_back}
 use Rattle.store.specs.Calls.{Spelt, EnteredBy, Marked, Ended}
 use Rattle.store.proofs.Judging.{accepted}
+use Rattle.store.proofs.Rows.{Rising, rising_more, rising_less, rising_back, newest_within, length_but_last}
 
 -- the cells are an equation over the variables 0 to 31
 abbrev pub Proper : List Cell → Type 0
@@ -38,66 +38,36 @@ well_entry m cells e h w =
     let p = length_push m.entries cells in
     record { proper = All-push Proper m.entries cells w.proper e; few = omega arith; shallow = w.shallow; rising = w.rising; within = λ k l. omega (arith, w.within k l) }
 
+marks_of : (m : Model) → Well m → Rising m.marks (length m.entries)
+marks_of m w = record { rising = w.rising; within = w.within }
+
 well_mark : (m : Model) → length m.marks < 8 → Well m → Well (with_mark m)
-well_mark m h w = record { proper = w.proper; few = w.few; shallow = omega (arith, p); rising = rises; within = inside }
-  where
-    n : ℕ
-    n = length m.entries
-
-    ms : List ℕ
-    ms = m.marks
-
-    p : length (ms ++ (n ∷ [])) ≡ length ms + 1
-    p = length_push ms n
-
-    inside : (k : ℕ) → k < length (ms ++ (n ∷ [])) → get_or (ms ++ (n ∷ [])) k 0 ≤ n
-    inside k l =
-        ⊎_elim (λ e. omega (arith, get_or_push ms n 0 k (sym e)))
-        (λ ne. let lt : k < length ms = omega (arith, p, ne) in omega (arith, get_or_append_left ms (n ∷ []) 0 k lt, w.within k lt)) (cases_eq k (length ms))
-
-    rises : (i j : ℕ) → i ≤ j → j < length (ms ++ (n ∷ [])) → get_or (ms ++ (n ∷ [])) i 0 ≤ get_or (ms ++ (n ∷ [])) j 0
-    rises i j q l =
-        ⊎_elim (λ e. omega (arith, get_or_push ms n 0 j (sym e), inside i (omega arith)))
-        (λ ne.
-        let lt : j < length ms = omega (arith, p, ne) in
-        omega (arith, get_or_append_left ms (n ∷ []) 0 j lt, get_or_append_left ms (n ∷ []) 0 i (omega arith), w.rising i j q lt))
-        (cases_eq j (length ms))
-
-length_but_last : (ms : List ℕ) → length (but_last ms) ≡ length ms - 1
-length_but_last ms = length-take-le (length ms - 1) ms (omega arith)
-
-get_or_but_last : (ms : List ℕ) (k : ℕ) → k < length (but_last ms) → get_or (but_last ms) k 0 ≡ get_or ms k 0
-get_or_but_last ms k h = get_or-take (length ms - 1) ms k 0 (omega (arith, length_but_last ms))
+well_mark m h w =
+    let p = length_push m.marks (length m.entries) in
+    let r = rising_more m.marks (length m.entries) (marks_of m w) in record { proper = w.proper; few = w.few; shallow = omega arith; rising = r.rising; within = r.within }
 
 pub well_without : (m : Model) → Well m → Well (without_mark m)
-well_without m w = record {
-  proper = w.proper;
-  few = w.few;
-  shallow = omega (arith, length_but_last ms);
-  rising = λ i j q l. omega (arith, get_or_but_last ms i (omega arith), get_or_but_last ms j l, w.rising i j q (omega (arith, length_but_last ms)));
-  within = λ k l. omega (arith, get_or_but_last ms k l, w.within k (omega (arith, length_but_last ms)));
-}
-  where
-    ms : List ℕ
-    ms = m.marks
+well_without m w =
+    let r = rising_less m.marks (length m.entries) (marks_of m w) in
+    record { proper = w.proper; few = w.few; shallow = omega (arith, length_but_last m.marks); rising = r.rising; within = r.within }
 
 pub well_back : (m : Model) → 1 ≤ length m.marks → Well m → Well (cut_back m)
 well_back m h w = record {
-  proper = All-take Proper (newest ms) m.entries w.proper;
+  proper = All-take Proper (newest m.marks) m.entries w.proper;
   few = omega (arith, cut, top, w.few);
   shallow = (well_without m w).shallow;
-  rising = (well_without m w).rising;
-  within = λ k l. omega (arith, cut, get_or_but_last ms k l, w.rising k (length ms - 1) (omega (arith, length_but_last ms)) (omega arith));
+  rising = r.rising;
+  within = λ k l. omega (arith, cut, r.within k l);
 }
   where
-    ms : List ℕ
-    ms = m.marks
+    r : Rising (but_last m.marks) (newest m.marks)
+    r = rising_back m.marks (length m.entries) (marks_of m w)
 
-    top : newest ms ≤ length m.entries
-    top = w.within (length ms - 1) (omega arith)
+    top : newest m.marks ≤ length m.entries
+    top = newest_within m.marks (length m.entries) (marks_of m w) (omega arith)
 
-    cut : length (take (newest ms) m.entries) ≡ newest ms
-    cut = length-take-le (newest ms) m.entries top
+    cut : length (take (newest m.marks) m.entries) ≡ newest m.marks
+    cut = length-take-le (newest m.marks) m.entries top
 
 pub entered_well : (kind : Signature) (m : Model) (cells : List Cell) (pairs frames : ℕ) (j : Result ℕ Refusal) → judged cells pairs frames (length m.entries) ≡ j → (r : Result Outcome Refusal) (m' : Model)
     → EnteredBy j kind m cells r m' → Well m → Well m'
@@ -110,9 +80,9 @@ pub marked_well : (number : ℕ) (m : Model) (r : Result Slip Refusal) (m' : Mod
 marked_well number m (Ok t) m' s w = subst Well (sym s.3) (well_mark m s.0 w)
 marked_well number m (Err r) m' s w = subst Well (sym s.2) w
 
-pub ended_well : (number : ℕ) (m : Model) (t : Slip) (r : Option Refusal) (n m' : Model) → (1 ≤ length m.marks → Well m → Well n) → Ended number m t r n m' → Well m → Well m'
-ended_well number m t None n m' f s w = subst Well (sym s.1) (f s.0.2 w)
-ended_well number m t (Some r) n m' f s w = subst Well (sym s.2) w
+pub ended_well : (number : ℕ) (m : Model) (t : Slip) (r : Result (Unit {0}) Refusal) (n m' : Model) → (1 ≤ length m.marks → Well m → Well n) → Ended number m t r n m' → Well m → Well m'
+ended_well number m t (Ok u) n m' f s w = subst Well (sym s.1) (f s.0.2 w)
+ended_well number m t (Err r) n m' f s w = subst Well (sym s.2) w
 
 -- the equations that proper entries spell
 pub entries_spell : (es : List (List Cell)) → All Proper es → (E : Eqs) × Spelt E es × EqsBelow 32 E

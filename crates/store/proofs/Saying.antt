@@ -1,5 +1,5 @@
 -- What the replies say of the equations that stand.
-use Rattle.std.proofs.Common.{◌≡◌, ℕ, Bool, true, false, cond, ◌||◌, ltb, List, [], ◌∷◌, ◌++◌, length, Some, None, Ok, Err, Option, Result, sym, refl, ap, ◌∙◌, subst, ap₂, arith}
+use Rattle.std.proofs.Common.{◌≡◌, ℕ, Bool, true, false, cond, ltb, List, [], ◌∷◌, ◌++◌, length, Ok, Err, Result, sym, refl, ap, ◌∙◌, subst, ap₂, arith}
 use Rattle.std.proofs.lemmas.List.{map_push}
 use Rattle.terms.specs.declared.Cell.{Cell}
 use Rattle.typing.specs.Terms.{Subst, Equation, Eqs, KTerm, Signature, Unifies, Fits}
@@ -14,11 +14,13 @@ use Rattle.unification.specs.declared.Outcome.TheVariants.{Solved, False, Wrong}
 use Rattle.unification.specs.Standing.{named}
 use Rattle.verdicts.specs.declared.Refusal as search
 use Rattle.verdicts.specs.declared.Answer.{Answer}
+use Rattle.verdicts.specs.declared.Refusal.TheVariants as searched
 use Rattle.frames.specs.Asked.{Answered, Proven}
+use Rattle.frames.specs.Asked as asked
 use Rattle.store.specs.declared.Refusal.{Refusal}
-use Rattle.store.specs.declared.Refusal.TheVariants.{TooLarge, NoVariable, NotSolved, ScratchShort}
-use Rattle.store.specs.Judged.{judged, judged_goals, judged_question, judged_variable}
-use Rattle.terms.specs.Shape.{goals, all_low}
+use Rattle.store.specs.declared.Refusal.TheVariants.{NoVariable, NotSolved}
+use Rattle.store.specs.Judged.{and_then, judged_by, judged_scratch, judged, judged_goals, judged_question, judged_variable}
+use Rattle.store.specs.Numbers.{refusal_of}
 use Rattle.store.specs.Model.{Model}
 use Rattle.store.specs.Calls.{Spelt, Told, EnteredBy, answer_of, AskedWith, AskedUnder, AskedBy, WroteOut, ReadUnder, ReadBy}
 use Rattle.store.specs.History.{Fixed, Replied}
@@ -71,9 +73,9 @@ module _ (f : Fixed) (m : Model) (E : Eqs) (s : Spelt E m.entries) (question : L
   under False t w = err_ok r _ a w.0 is
   under Wrong t w = err_ok r _ a w.0 is
 
-  pub ask_says : (j : Option Refusal) → AskedBy j f.lists f.kind f.limit f.allowance question m.entries before after r → Replied f E question before after a
-  ask_says (Some x) w = err_ok r x a w.0 is
-  ask_says None w = under w.0 w.1 w.2
+  pub ask_says : (j : Result (Unit {0}) Refusal) → AskedBy j f.lists f.kind f.limit f.allowance question m.entries before after r → Replied f E question before after a
+  ask_says (Err x) w = err_ok r x a w.0 is
+  ask_says (Ok u) w = under w.0 w.1 w.2
 
 module _ (kind : Signature) (m : Model) (E : Eqs) (s : Spelt E m.entries) (variable : ℕ) (before after : List Cell) (r : Result ℕ Refusal) (n : ℕ) (is : r ≡ Ok n) (θ : Subst) (reads : Reads θ E) where
   under_read : (o : Outcome) → Told kind m.entries o → ReadUnder o kind m.entries variable before after r → WroteOut (flat (θ variable)) before (Ok n) after
@@ -86,9 +88,9 @@ module _ (kind : Signature) (m : Model) (E : Eqs) (s : Spelt E m.entries) (varia
   under_read False t w = err_ok r _ n w.0 is
   under_read Wrong t w = err_ok r _ n w.0 is
 
-  pub read_says : (j : Option Refusal) → ReadBy j kind m.entries variable before after r → WroteOut (flat (θ variable)) before (Ok n) after
-  read_says (Some x) w = err_ok r x n w.0 is
-  read_says None w = under_read w.0 w.1 w.2
+  pub read_says : (j : Result (Unit {0}) Refusal) → ReadBy j kind m.entries variable before after r → WroteOut (flat (θ variable)) before (Ok n) after
+  read_says (Err x) w = err_ok r x n w.0 is
+  read_says (Ok u) w = under_read w.0 w.1 w.2
 
 -- A refusal for equations that are not solved comes only of them.
 
@@ -107,29 +109,44 @@ other : {A P : Type 0} (r : Result A Refusal) (x : Refusal) → (x ≡ NotSolved
 other r x n e k = absurd (n (let z : x ≡ NotSolved = cc in z))
 
 -- what is judged first is no such refusal
-question_other : (question : List Cell) (pairs frames : ℕ) (x : Refusal) → judged_question question pairs frames ≡ Some x → x ≡ NotSolved → ⊥
-question_other question pairs frames x = scratch (ltb pairs 12864 || ltb frames 512)
-  where
-    size : (b : Bool) → cond b (Some TooLarge) None ≡ Some x → x ≡ NotSolved → ⊥
-    size true e n = let z : ◌≡◌ {A = ℕ} 0 1 = cc in omega arith
-    size false e n = let z : ◌≡◌ {A = ℕ} 0 1 = cc in omega arith
+abbrev Other : {A : Type 0} → Result A Refusal → Type 0
+Other {A} r = (x : Refusal) → r ≡ Err x → x ≡ NotSolved → ⊥
 
-    list : (o : Option ℕ) (low : Bool) → judged_goals o low (length question) ≡ Some x → x ≡ NotSolved → ⊥
-    list None low e n = let z : ◌≡◌ {A = ℕ} 0 1 = cc in omega arith
-    list (Some k) true e n = size (ltb 32 (length question) || ltb 8 k) e n
-    list (Some k) false e n = let z : ◌≡◌ {A = ℕ} 0 1 = cc in omega arith
+other_then : {A B : Type 0} (r : Result A Refusal) (f : A → Result B Refusal) → Other r → ((a : A) → Other (f a)) → Other (and_then r f)
+other_then (Ok a) f h k = k a
+other_then (Err e) f h k = λ x p n. h x (let z : e ≡ x = cc in ap Err z) n
 
-    scratch : (b : Bool) → cond b (Some ScratchShort) (judged_goals (goals 0 0 question) (all_low question) (length question)) ≡ Some x → x ≡ NotSolved → ⊥
-    scratch true e n = let z : ◌≡◌ {A = ℕ} 0 1 = cc in omega arith
-    scratch false e n = list (goals 0 0 question) (all_low question) e n
+other_if : {A : Type 0} (b : Bool) (r q : Result A Refusal) → Other r → Other q → Other (cond b r q)
+other_if true r q h k = h
+other_if false r q h k = k
 
-variable_other : (variable pairs frames : ℕ) (x : Refusal) → judged_variable variable pairs frames ≡ Some x → x ≡ NotSolved → ⊥
-variable_other variable pairs frames x = scratch (ltb pairs 12864 || ltb frames 512) (ltb variable 32)
-  where
-    scratch : (b v : Bool) → cond b (Some ScratchShort) (cond v None (Some NoVariable)) ≡ Some x → x ≡ NotSolved → ⊥
-    scratch true v e n = let z : ◌≡◌ {A = ℕ} 0 1 = cc in omega arith
-    scratch false true e n = let z : ◌≡◌ {A = ℕ} 0 1 = cc in omega arith
-    scratch false false e n = let z : ◌≡◌ {A = ℕ} 0 1 = cc in omega arith
+ok_other : {A : Type 0} (a : A) → Other {A = A} (Ok a)
+ok_other a x e n = let z : ◌≡◌ {A = ℕ} 0 1 = cc in omega arith
+
+err_other : {A : Type 0} (y : Refusal) → (y ≡ NotSolved → ⊥) → Other {A = A} (Err y)
+err_other y h x e n = h (let z : y ≡ x = cc in z ∙ n)
+
+-- the search knows no such refusal
+named_other : (e : search.Refusal) → refusal_of e ≡ NotSolved → ⊥
+named_other searched.NoGoalList e = let z : ◌≡◌ {A = ℕ} 0 1 = cc in omega arith
+named_other searched.TooLarge e = let z : ◌≡◌ {A = ℕ} 0 1 = cc in omega arith
+named_other searched.Settings e = let z : ◌≡◌ {A = ℕ} 0 1 = cc in omega arith
+named_other searched.Allowance e = let z : ◌≡◌ {A = ℕ} 0 1 = cc in omega arith
+named_other searched.ScratchShort e = let z : ◌≡◌ {A = ℕ} 0 1 = cc in omega arith
+named_other searched.PathShort e = let z : ◌≡◌ {A = ℕ} 0 1 = cc in omega arith
+
+judged_other : (r : Result (Unit {0}) search.Refusal) → Other (judged_by r)
+judged_other (Ok u) = ok_other u
+judged_other (Err e) = err_other (refusal_of e) (named_other e)
+
+question_other : (question : List Cell) (pairs frames : ℕ) → Other (judged_question question pairs frames)
+question_other question pairs frames =
+    other_then (judged_scratch pairs frames) (λ _. judged_goals question) (judged_other (asked.judged_scratch pairs frames)) (λ _. judged_other (asked.judged_goals question))
+
+variable_other : (variable pairs frames : ℕ) → Other (judged_variable variable pairs frames)
+variable_other variable pairs frames =
+    other_then (judged_scratch pairs frames) (λ _. cond (ltb variable 32) (Ok tt) (Err NoVariable)) (judged_other (asked.judged_scratch pairs frames))
+    (λ _. other_if (ltb variable 32) (Ok tt) (Err NoVariable) (ok_other tt) (err_other NoVariable (λ e. let z : ◌≡◌ {A = ℕ} 0 1 = cc in omega arith)))
 
 answer_other : (told : Result Answer search.Refusal) (r : Result Answer Refusal) → r ≡ answer_of told → r ≡ Err NotSolved → ⊥
 answer_other (Ok a) r e k = let z : ◌≡◌ {A = ℕ} 0 1 = cc in omega arith
@@ -145,9 +162,9 @@ module _ (f : Fixed) (m : Model) (E : Eqs) (s : Spelt E m.entries) (question : L
   unasked False t w = not_solved f.kind m.entries E False s t (λ e. let z : ◌≡◌ {A = ℕ} 0 1 = cc in omega arith)
   unasked Wrong t w = not_solved f.kind m.entries E Wrong s t (λ e. let z : ◌≡◌ {A = ℕ} 0 1 = cc in omega arith)
 
-  pub ask_unsolved : (j : Option Refusal) → judged_question question f.pairs f.frames ≡ j → AskedBy j f.lists f.kind f.limit f.allowance question m.entries before after r → ¬ ((θ : Subst) × Unifies θ E)
-  ask_unsolved (Some x) e w = other r x (question_other question f.pairs f.frames x e) w.0 is
-  ask_unsolved None e w = unasked w.0 w.1 w.2
+  pub ask_unsolved : (j : Result (Unit {0}) Refusal) → judged_question question f.pairs f.frames ≡ j → AskedBy j f.lists f.kind f.limit f.allowance question m.entries before after r → ¬ ((θ : Subst) × Unifies θ E)
+  ask_unsolved (Err x) e w = other r x (λ n. question_other question f.pairs f.frames x e n) w.0 is
+  ask_unsolved (Ok u) e w = unasked w.0 w.1 w.2
 
 module _ (f : Fixed) (m : Model) (E : Eqs) (s : Spelt E m.entries) (variable : ℕ) (before after : List Cell) (r : Result ℕ Refusal) (is : r ≡ Err NotSolved) where
   unwritten : (xs : List Cell) (q : Result ℕ Refusal) → q ≡ Err NotSolved → WroteOut xs before q after → ⊥
@@ -159,6 +176,6 @@ module _ (f : Fixed) (m : Model) (E : Eqs) (s : Spelt E m.entries) (variable : �
   unread False t w = not_solved f.kind m.entries E False s t (λ e. let z : ◌≡◌ {A = ℕ} 0 1 = cc in omega arith)
   unread Wrong t w = not_solved f.kind m.entries E Wrong s t (λ e. let z : ◌≡◌ {A = ℕ} 0 1 = cc in omega arith)
 
-  pub read_unsolved : (j : Option Refusal) → judged_variable variable f.pairs f.frames ≡ j → ReadBy j f.kind m.entries variable before after r → ¬ ((θ : Subst) × Unifies θ E)
-  read_unsolved (Some x) e w = other r x (variable_other variable f.pairs f.frames x e) w.0 is
-  read_unsolved None e w = unread w.0 w.1 w.2
+  pub read_unsolved : (j : Result (Unit {0}) Refusal) → judged_variable variable f.pairs f.frames ≡ j → ReadBy j f.kind m.entries variable before after r → ¬ ((θ : Subst) × Unifies θ E)
+  read_unsolved (Err x) e w = other r x (λ n. variable_other variable f.pairs f.frames x e n) w.0 is
+  read_unsolved (Ok u) e w = unread w.0 w.1 w.2

@@ -1,5 +1,5 @@
 -- What each call answers, and what it makes of the model.
-use Rattle.std.specs.Prelude.{◌≡◌, ℕ, ◌+◌, ◌<◌, ◌≤◌, Bool, true, false, List, ◌++◌, map, length, drop, Some, None, Ok, Err, Option, Result, nat_lt}
+use Rattle.std.specs.Prelude.{◌≡◌, ℕ, ◌+◌, ◌<◌, ◌≤◌, Bool, true, false, List, ◌++◌, map, length, drop, Ok, Err, Result, nat_lt}
 use Rattle.terms.specs.declared.Cell.{Cell}
 use Rattle.typing.specs.Terms.{Eqs, Subst, Signature}
 use Rattle.typing.specs.Rules.{ComesTo, Reads}
@@ -60,9 +60,9 @@ AskedUnder False lists kind limit allowance question entries before after r = (r
 AskedUnder Wrong lists kind limit allowance question entries before after r = (r ≡ Err NotSolved) × (after ≡ before)
 
 -- what is judged first is told; else it goes by the outcome of the equations
-abbrev pub AskedBy : Option Refusal → (lists : ℕ → ℕ → List (List Cell)) (kind : Signature) (limit allowance : ℕ) (question : List Cell) (entries : List (List Cell)) (before after : List ℕ) → Result Answer Refusal → Type 0
-AskedBy (Some e) lists kind limit allowance question entries before after r = (r ≡ Err e) × (after ≡ before)
-AskedBy None lists kind limit allowance question entries before after r = (o : Outcome) × Told kind entries o × AskedUnder o lists kind limit allowance question entries before after r
+abbrev pub AskedBy : Result (Unit {0}) Refusal → (lists : ℕ → ℕ → List (List Cell)) (kind : Signature) (limit allowance : ℕ) (question : List Cell) (entries : List (List Cell)) (before after : List ℕ) → Result Answer Refusal → Type 0
+AskedBy (Err e) lists kind limit allowance question entries before after r = (r ≡ Err e) × (after ≡ before)
+AskedBy (Ok u) lists kind limit allowance question entries before after r = (o : Outcome) × Told kind entries o × AskedUnder o lists kind limit allowance question entries before after r
 
 abbrev pub Asked : (lists : ℕ → ℕ → List (List Cell)) (kind : Signature) (limit allowance : ℕ) (m : Model) (question : List Cell) (pairs frames : ℕ) (before : List ℕ) → Result Answer Refusal → (after : List ℕ) → Type 0
 Asked lists kind limit allowance m question pairs frames before r after =
@@ -86,9 +86,9 @@ ReadUnder Solved kind entries variable before after r = Shown kind entries varia
 ReadUnder False kind entries variable before after r = (r ≡ Err NotSolved) × (after ≡ before)
 ReadUnder Wrong kind entries variable before after r = (r ≡ Err NotSolved) × (after ≡ before)
 
-abbrev pub ReadBy : Option Refusal → (kind : Signature) (entries : List (List Cell)) (variable : ℕ) (before after : List Cell) → Result ℕ Refusal → Type 0
-ReadBy (Some e) kind entries variable before after r = (r ≡ Err e) × (after ≡ before)
-ReadBy None kind entries variable before after r = (o : Outcome) × Told kind entries o × ReadUnder o kind entries variable before after r
+abbrev pub ReadBy : Result (Unit {0}) Refusal → (kind : Signature) (entries : List (List Cell)) (variable : ℕ) (before after : List Cell) → Result ℕ Refusal → Type 0
+ReadBy (Err e) kind entries variable before after r = (r ≡ Err e) × (after ≡ before)
+ReadBy (Ok u) kind entries variable before after r = (o : Outcome) × Told kind entries o × ReadUnder o kind entries variable before after r
 
 abbrev pub ReadOut : (kind : Signature) (m : Model) (variable pairs frames : ℕ) (before : List Cell) → Result ℕ Refusal → (after : List Cell) → Type 0
 ReadOut kind m variable pairs frames before r after = ReadBy (judged_variable variable pairs frames) kind m.entries variable before after r
@@ -102,24 +102,24 @@ Marked number m (Err r) m' = (8 ≤ length m.marks) × (r ≡ MarksFull) × (m' 
 abbrev pub Newest : ℕ → Model → Slip → Type 0
 Newest number m t = (t.store ≡ number) × (t.depth ≡ length m.marks) × (0 < length m.marks)
 
-abbrev pub Ended : ℕ → Model → Slip → Option Refusal → (accepted m' : Model) → Type 0
-Ended number m t None accepted m' = Newest number m t × (m' ≡ accepted)
-Ended number m t (Some r) accepted m' = (Newest number m t → ⊥) × (r ≡ NotNewest) × (m' ≡ m)
+abbrev pub Ended : ℕ → Model → Slip → Result (Unit {0}) Refusal → (accepted m' : Model) → Type 0
+Ended number m t (Ok u) accepted m' = Newest number m t × (m' ≡ accepted)
+Ended number m t (Err r) accepted m' = (Newest number m t → ⊥) × (r ≡ NotNewest) × (m' ≡ m)
 
-abbrev pub Kept : ℕ → Model → Slip → Option Refusal → Model → Type 0
+abbrev pub Kept : ℕ → Model → Slip → Result (Unit {0}) Refusal → Model → Type 0
 Kept number m t r m' = Ended number m t r (without_mark m) m'
 
-abbrev pub TakenBack : ℕ → Model → Slip → Option Refusal → Model → Type 0
+abbrev pub TakenBack : ℕ → Model → Slip → Result (Unit {0}) Refusal → Model → Type 0
 TakenBack number m t r m' = Ended number m t r (cut_back m) m'
 
--- what is written on the token that marking gives; the refusal with which ending a mark is answered, and the token that is returned then
+-- what is written on the token that marking gives; how ending a mark is answered, and the token that is returned with a refusal
 abbrev pub slip_of : Result Token Refusal → Result Slip Refusal
 slip_of (Ok t) = Ok t.slip
 slip_of (Err r) = Err r
 
-abbrev pub refusal_of : Result (Unit {0}) (Token × Refusal) → Option Refusal
-refusal_of (Ok u) = None
-refusal_of (Err e) = Some e.1
+abbrev pub ended_of : Result (Unit {0}) (Token × Refusal) → Result (Unit {0}) Refusal
+ended_of (Ok u) = Ok u
+ended_of (Err e) = Err e.1
 
 abbrev pub Returned : Token → Result (Unit {0}) (Token × Refusal) → Type 0
 Returned t (Ok u) = Unit {0}

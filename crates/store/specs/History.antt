@@ -1,5 +1,5 @@
 -- Histories of calls, and what holds after every one.
-use Rattle.std.specs.Prelude.{◌≡◌, ℕ, ◌<◌, ◌≤◌, List, [], ◌∷◌, ◌++◌, length, take, drop, Ok, Err, Option, Result, slice_index}
+use Rattle.std.specs.Prelude.{◌≡◌, ℕ, ◌<◌, ◌≤◌, List, [], ◌∷◌, ◌++◌, length, take, drop, Ok, Err, Result, slice_index}
 use Rattle.terms.specs.declared.Cell.{Cell}
 use Rattle.typing.specs.Terms.{Subst, Equation, Eqs, Signature, Unifies}
 use Rattle.typing.specs.Rules.{InEveryOrder, Means, ComesTo, Reads}
@@ -48,8 +48,8 @@ abbrev pub Step : Fixed → World → Call → Reply → World → Type 0
 Step f w (Enter cells) a w' =
     (r : Result Outcome Refusal) × (a ≡ OfEnter r) × Entered f.kind w.model cells.now f.pairs f.frames r w'.model × (w'.path ≡ w.path) × (w'.out ≡ w.out)
 Step f w Mark a w' = (r : Result Slip Refusal) × (a ≡ OfMark r) × Marked f.number w.model r w'.model × (w'.path ≡ w.path) × (w'.out ≡ w.out)
-Step f w (Keep t) a w' = (r : Option Refusal) × (a ≡ OfKeep r) × Kept f.number w.model t r w'.model × (w'.path ≡ w.path) × (w'.out ≡ w.out)
-Step f w (TakeBack t) a w' = (r : Option Refusal) × (a ≡ OfTakeBack r) × TakenBack f.number w.model t r w'.model × (w'.path ≡ w.path) × (w'.out ≡ w.out)
+Step f w (Keep t) a w' = (r : Result (Unit {0}) Refusal) × (a ≡ OfKeep r) × Kept f.number w.model t r w'.model × (w'.path ≡ w.path) × (w'.out ≡ w.out)
+Step f w (TakeBack t) a w' = (r : Result (Unit {0}) Refusal) × (a ≡ OfTakeBack r) × TakenBack f.number w.model t r w'.model × (w'.path ≡ w.path) × (w'.out ≡ w.out)
 Step f w (Ask question) a w' =
     (r : Result Answer Refusal) × (a ≡ OfAsk r) × Asked f.lists f.kind f.limit f.allowance w.model question.now f.pairs f.frames w.path r w'.path
     × (w'.model ≡ w.model) × (w'.out ≡ w.out)

@@ -1,33 +1,54 @@
 -- When an equation, a question or a reading is refused for what is handed in.
-use Rattle.std.specs.Prelude.{ℕ, Bool, cond, ◌||◌, List, length, Some, None, Ok, Err, Option, Result, nat_lt}
+use Rattle.std.specs.Prelude.{ℕ, Bool, cond, List, length, Some, None, Ok, Err, Option, Result, nat_lt}
+use Rattle.std.specs.Result.{result_map_both}
 use Rattle.terms.specs.declared.Cell.{Cell}
-use Rattle.terms.specs.Shape.{two_terms, goals, all_low}
+use Rattle.terms.specs.Shape.{two_terms, all_low}
+use Rattle.verdicts.specs.declared.Refusal as search
+use Rattle.frames.specs.Asked as asked
 use Rattle.store.specs.declared.Refusal.{Refusal}
-use Rattle.store.specs.declared.Refusal.TheVariants.{NotTerms, TooLarge, EquationsFull, NoVariable, ScratchShort}
+use Rattle.store.specs.declared.Refusal.TheVariants.{NotTerms, TooLarge, EquationsFull, NoVariable}
+use Rattle.store.specs.Numbers.{refusal_of}
 
--- over 32 cells; sixteen stand
-abbrev pub judged_size : ℕ → (size standing : ℕ) → Result ℕ Refusal
-judged_size p size standing = cond (nat_lt 32 size) (Err TooLarge) (cond (nat_lt standing 16) (Ok p) (Err EquationsFull))
+-- the first refusal, or what comes of the last
+abbrev pub and_then : {A B : Type 0} → Result A Refusal → (A → Result B Refusal) → Result B Refusal
+and_then (Ok a) f = f a
+and_then (Err e) f = Err e
 
--- not two terms, or a variable above 31
-abbrev pub judged_terms : Option ℕ → Bool → (size standing : ℕ) → Result ℕ Refusal
-judged_terms None low size standing = Err NotTerms
-judged_terms (Some p) low size standing = cond low (judged_size p size standing) (Err NotTerms)
+-- what the search judges, by the store's names
+abbrev pub judged_by : Result (Unit {0}) search.Refusal → Result (Unit {0}) Refusal
+judged_by r = result_map_both (λ u. u) refusal_of r
 
--- too little scratch first; where nothing is refused, the place of the second term
+-- too little scratch
+abbrev pub judged_scratch : (pairs frames : ℕ) → Result (Unit {0}) Refusal
+judged_scratch pairs frames = judged_by (asked.judged_scratch pairs frames)
+
+-- not two terms, or a variable above 31; over 32 cells
+abbrev pub judged_cells : Option ℕ → Bool → (size : ℕ) → Result ℕ Refusal
+judged_cells None low size = Err NotTerms
+judged_cells (Some n) low size = cond low (cond (nat_lt 32 size) (Err TooLarge) (Ok n)) (Err NotTerms)
+
+-- sixteen equations stand
+abbrev pub judged_room : (standing p : ℕ) → Result ℕ Refusal
+judged_room standing p = cond (nat_lt standing 16) (Ok p) (Err EquationsFull)
+
+-- not two terms, or a variable above 31; over 32 cells; sixteen equations stand; where nothing is refused, the place of the second term
+abbrev pub judged_equation : List Cell → (standing : ℕ) → Result ℕ Refusal
+judged_equation cells standing = and_then (judged_cells (two_terms cells) (all_low cells) (length cells)) (judged_room standing)
+
+-- no goal list, or a variable above 31; over 32 cells, or over 8 goals
+abbrev pub judged_goals : List Cell → Result (Unit {0}) Refusal
+judged_goals question = judged_by (asked.judged_goals question)
+
+-- a variable above 31
+abbrev pub judged_number : (variable : ℕ) → Result (Unit {0}) Refusal
+judged_number variable = cond (nat_lt variable 32) (Ok tt) (Err NoVariable)
+
+-- too little scratch first
 abbrev pub judged : List Cell → (pairs frames standing : ℕ) → Result ℕ Refusal
-judged cells pairs frames standing =
-    cond (nat_lt pairs 12864 || nat_lt frames 512) (Err ScratchShort) (judged_terms (two_terms cells) (all_low cells) (length cells) standing)
+judged cells pairs frames standing = and_then (judged_scratch pairs frames) (λ _. judged_equation cells standing)
 
--- over 32 cells or 8 goals
-abbrev pub judged_goals : Option ℕ → Bool → (size : ℕ) → Option Refusal
-judged_goals None low size = Some NotTerms
-judged_goals (Some n) low size = cond low (cond (nat_lt 32 size || nat_lt 8 n) (Some TooLarge) None) (Some NotTerms)
+abbrev pub judged_question : List Cell → (pairs frames : ℕ) → Result (Unit {0}) Refusal
+judged_question question pairs frames = and_then (judged_scratch pairs frames) (λ _. judged_goals question)
 
--- too little scratch; no goal list, or a variable above 31; too large
-abbrev pub judged_question : List Cell → (pairs frames : ℕ) → Option Refusal
-judged_question question pairs frames = cond (nat_lt pairs 12864 || nat_lt frames 512) (Some ScratchShort) (judged_goals (goals 0 0 question) (all_low question) (length question))
-
--- too little scratch; a variable above 31
-abbrev pub judged_variable : (variable pairs frames : ℕ) → Option Refusal
-judged_variable variable pairs frames = cond (nat_lt pairs 12864 || nat_lt frames 512) (Some ScratchShort) (cond (nat_lt variable 32) None (Some NoVariable))
+abbrev pub judged_variable : (variable pairs frames : ℕ) → Result (Unit {0}) Refusal
+judged_variable variable pairs frames = and_then (judged_scratch pairs frames) (λ _. judged_number variable)

@@ -1,22 +1,18 @@
 -- A store's model: the standing equations, each by its cells, and the open marks, each a count of equations.
-use Rattle.std.specs.Prelude.{ℕ, ◌-◌, List, [], ◌∷◌, ◌++◌, map, length, take, slice_index}
+use Rattle.std.specs.Prelude.{ℕ, ◌-◌, List, [], ◌∷◌, ◌++◌, length, take, vec_items, slice_index}
 use Rattle.terms.specs.declared.Cell.{Cell}
-use Rattle.store.specs.declared.entry.Entry.{Entry}
 use Rattle.store.specs.declared.table.Table.{Table}
-use Rattle.store.specs.Entries.{cells_of}
+use Rattle.store.specs.Entries.{cut_at}
 
 pub record Model : Type 0 where
   pub entries : List (List Cell)
   pub marks : List ℕ
 
-abbrev pub standing_of : Table → List Entry
-standing_of t = take t.standing t.entries
-
 abbrev pub entries_of : Table → List (List Cell)
-entries_of t = map cells_of (standing_of t)
+entries_of t = cut_at (vec_items t.places) (vec_items t.cells)
 
 abbrev pub marks_of : Table → List ℕ
-marks_of t = take t.depth t.marks
+marks_of t = vec_items t.marks
 
 abbrev pub model_of : Table → Model
 model_of t = record { entries = entries_of t; marks = marks_of t }

@@ -6,7 +6,7 @@ use unification::Outcome;
 use verdicts::Answer;
 
 // A token is named by what is written on it.
-#[derive(Clone, Copy)]
+#[derive(Clone, Copy, Debug, PartialEq, Eq)]
 pub enum Call<'a> {
     Enter(&'a [Cell]),
     Mark,
@@ -16,12 +16,12 @@ pub enum Call<'a> {
     Read(u32),
 }
 
-#[derive(Clone, Copy)]
+#[derive(Clone, Copy, Debug, PartialEq, Eq)]
 pub enum Reply {
     OfEnter(Result<Outcome, Refusal>),
     OfMark(Result<Slip, Refusal>),
-    OfKeep(Option<Refusal>),
-    OfTakeBack(Option<Refusal>),
+    OfKeep(Result<(), Refusal>),
+    OfTakeBack(Result<(), Refusal>),
     OfAsk(Result<Answer, Refusal>),
     OfRead(Result<usize, Refusal>),
 }

@@ -1,13 +1,13 @@
 // A list of calls, made one after another.
 ghost use Rattle.std.specs.Prelude.{◌≡◌, length, MatchResult};
 ghost use Rattle.store.specs.Model.{model_of};
-ghost use Rattle.store.specs.Calls.{slip_of, refusal_of};
+ghost use Rattle.store.specs.Calls.{ended_of};
 ghost use Rattle.store.specs.History.{fixed, world, Step, Ran, Replayed};
 
 use crate::Refusal;
 use crate::call::{Call, Reply};
 use crate::store::Store;
-use crate::token::{Slip, Token};
+use crate::token::Token;
 use clauses::ProgramSource;
 use frames::Frame;
 use std::alloc::{AllocError, Global};
@@ -16,37 +16,17 @@ use terms::signature::Signature;
 use unification::Pair;
 use verdicts::settings::Settings;
 
-fn spend(t: Token) -> Slip
-    ensures { result ≡ t.slip }
+// The token that came back is spent.
+fn ended(r: Result<(), (Token, Refusal)>) -> Result<(), Refusal>
+    ensures { result ≡ ended_of r }
 {
-    let Token { slip } = t;
-    slip
+    r.map_err(|(token, refusal)| {
+        token.spend();
+        refusal
+    })
 }
 
-// The token is spent, and what was written on it is left.
-fn written(r: Result<Token, Refusal>) -> Result<Slip, Refusal>
-    ensures { result ≡ slip_of r }
-{
-    match r {
-        Ok(t) => Ok(spend(t)),
-        Err(e) => Err(e),
-    }
-}
-
-fn refusal(r: Result<(), (Token, Refusal)>) -> Option<Refusal>
-    ensures { result ≡ refusal_of r }
-{
-    match r {
-        Ok(()) => None,
-        Err(back) => {
-            let (t, e) = back;
-            spend(t);
-            Some(e)
-        }
-    }
-}
-
-// One call, with its reply.
+// One call, with its reply. The calls of a history are values, so that a contract can speak of every list of them.
 fn step<P: ProgramSource, G: Signature>(
     store: &mut Store<P, G>,
     call: Call,
@@ -55,14 +35,14 @@ fn step<P: ProgramSource, G: Signature>(
     path: &mut [u16],
     out: &mut [Cell],
 ) -> Reply
-    ensures told { Step (fixed (P.Source.clauses store.old.source) (G.Signature.kind store.old.signature) store.old.settings.limit store.old.settings.allowance store.old.number (length pairs.old) (length frames.old)) (world (model_of store.old.table) path.old out.old) call.entry result (world (model_of store.new.table) path.new out.new) }
-    ensures same { (store.new.settings ≡ store.old.settings) × (store.new.number ≡ store.old.number) × (store.new.source ≡ store.old.source) × (store.new.signature ≡ store.old.signature) }
+    ensures told { Step (fixed (P.Source.clauses store.old.base.source) (G.Signature.kind store.old.base.signature) store.old.base.settings.limit store.old.base.settings.allowance store.old.base.number (length pairs.old) (length frames.old)) (world (model_of store.old.table) path.old out.old) call.entry result (world (model_of store.new.table) path.new out.new) }
+    ensures same { store.new.base ≡ store.old.base }
 {
     match call {
         Call::Enter(cells) => Reply::OfEnter(store.enter(cells, pairs, frames)),
-        Call::Mark => Reply::OfMark(written(store.mark())),
-        Call::Keep(slip) => Reply::OfKeep(refusal(store.keep(Token { slip }))),
-        Call::TakeBack(slip) => Reply::OfTakeBack(refusal(store.take_back(Token { slip }))),
+        Call::Mark => Reply::OfMark(store.mark().map(|token| token.spend())),
+        Call::Keep(slip) => Reply::OfKeep(ended(store.keep(Token { slip }))),
+        Call::TakeBack(slip) => Reply::OfTakeBack(ended(store.take_back(Token { slip }))),
         Call::Ask(question) => Reply::OfAsk(store.ask(question, pairs, frames, path)),
         Call::Read(variable) => Reply::OfRead(store.read(variable, pairs, frames, out)),
     }
@@ -78,14 +58,15 @@ pub fn run<P: ProgramSource, G: Signature>(
     path: &mut [u16],
     out: &mut [Cell],
 ) -> Result<(), Refusal>
-    ensures told { Ran (fixed (P.Source.clauses store.old.source) (G.Signature.kind store.old.signature) store.old.settings.limit store.old.settings.allowance store.old.number (length pairs.old) (length frames.old)) (world (model_of store.old.table) path.old out.old) calls.now replies.old result replies.new (world (model_of store.new.table) path.new out.new) }
-    ensures same { (store.new.settings ≡ store.old.settings) × (store.new.number ≡ store.old.number) × (store.new.source ≡ store.old.source) × (store.new.signature ≡ store.old.signature) }
+    ensures told { Ran (fixed (P.Source.clauses store.old.base.source) (G.Signature.kind store.old.base.signature) store.old.base.settings.limit store.old.base.settings.allowance store.old.base.number (length pairs.old) (length frames.old)) (world (model_of store.old.table) path.old out.old) calls.now replies.old result replies.new (world (model_of store.new.table) path.new out.new) }
+    ensures same { store.new.base ≡ store.old.base }
 {
     if replies.len() < calls.len() {
         return Err(Refusal::OutputShort);
     }
-    for i in 0..calls.len() {
-        replies[i] = step(store, calls[i], pairs, frames, path, out);
+    // The replies are written by place: a loop over calls and places of replies at once tells too little of what stands in the places in the end.
+    for (i, call) in calls.iter().enumerate() {
+        replies[i] = step(store, *call, pairs, frames, path, out);
     }
     Ok(())
 }

@@ -1,5 +1,6 @@
 -- What is printed for a reply: what was called, and the number that tells how it came out.
-use Rattle.std.specs.Prelude.{ℕ, List, ◌++◌, codes, decimal, Option, Some, None, Ok, Err}
+use Rattle.std.specs.Prelude.{ℕ, List, ◌++◌, codes, decimal, Ok, Err, Result}
+use Rattle.std.specs.List.{flat_map}
 use Rattle.unification.specs.declared.Outcome.{Outcome}
 use Rattle.unification.specs.declared.Outcome.TheVariants.{Solved, False, Wrong}
 use Rattle.verdicts.specs.declared.Verdict.{Verdict}
@@ -24,9 +25,9 @@ verdict_number Unsettled = 102
 abbrev pub refused_text : Refusal → List ℕ
 refused_text e = codes "refused " ++ decimal (number_of e)
 
-abbrev pub ended_text : Option Refusal → List ℕ
-ended_text None = codes "ended 0"
-ended_text (Some e) = refused_text e
+abbrev pub ended_text : Result (Unit {0}) Refusal → List ℕ
+ended_text (Ok u) = codes "ended 0"
+ended_text (Err e) = refused_text e
 
 abbrev pub reply_text : Reply → List ℕ
 reply_text (OfEnter (Ok o)) = codes "enter " ++ decimal (outcome_number o)
@@ -39,3 +40,7 @@ reply_text (OfAsk (Ok a)) = codes "ask " ++ decimal (verdict_number a.verdict)
 reply_text (OfAsk (Err e)) = refused_text e
 reply_text (OfRead (Ok n)) = codes "read " ++ decimal n
 reply_text (OfRead (Err e)) = refused_text e
+
+-- the replies in order, each with what parts it from the next
+abbrev pub replies_text : List Reply → List ℕ
+replies_text rs = flat_map (λ (r : Reply). reply_text r ++ codes "; ") rs

@@ -2,56 +2,27 @@
 // 1 false, 2 wrong; a mark tells its depth, an ending 0, a question the uses of a path and 100 and more without one, a reading its cells; a refusal is its number after `refused`.
 #![tactic(auto)]
 
-ghost use Rattle.std.specs.Prelude.{◌≡◌, IfOk, string_bytes};
-ghost use Rattle.store_cases.specs.Texts.{outcome_number, verdict_number, refused_text, ended_text, reply_text};
+ghost use Rattle.std.specs.Prelude.{◌≡◌, List, Some, IfOk, string_bytes};
+ghost use Rattle.store.specs.declared.call.Call.{Call as CallOf};
+ghost use Rattle.store_cases.specs.Texts.{outcome_number, verdict_number, reply_text, replies_text};
+ghost use Rattle.store_cases.specs.Told.{Told};
 
 use frames::Frame;
 use records::Records;
 use records::fact::Symbols;
 use std::alloc::{AllocError, Global};
-use store::Refusal;
+use std::fmt;
 use store::call::{Call, Reply};
 use store::replay::replay;
 use store::token::Slip;
+use store::{FRAMES, PAIRS};
 use terms::Cell;
 use terms::signature::ByForm;
 use unification::{Outcome, Pair};
 use verdicts::Verdict;
 use verdicts::settings::Settings;
 
-fn variable(value: u32) -> Cell
-    ensures { result ≡ record { tag = 0; form = 0; arity = 0; value = value } }
-{
-    Cell {
-        tag: 0,
-        form: 0,
-        arity: 0,
-        value,
-    }
-}
-
-fn constant(form: u8, value: u32) -> Cell
-    ensures { result ≡ record { tag = 1; form = form; arity = 0; value = value } }
-{
-    Cell {
-        tag: 1,
-        form,
-        arity: 0,
-        value,
-    }
-}
-
-fn function(value: u32, arity: u8) -> Cell
-    ensures { result ≡ record { tag = 2; form = 0; arity = arity; value = value } }
-{
-    Cell {
-        tag: 2,
-        form: 0,
-        arity,
-        value,
-    }
-}
-
+// The numbers of the expected output, here and below.
 fn outcome_code(o: Outcome) -> u32
     ensures { result ≡ outcome_number o }
 {
@@ -73,53 +44,48 @@ fn verdict_code(v: Verdict) -> u32
     }
 }
 
-fn refused(heap: Global, e: Refusal) -> Result<String, AllocError>
-    ensures { IfOk result (λ s. string_bytes s ≡ refused_text e) }
-{
-    let number = e.number();
-    format!(in heap; "refused {number}")
-}
+// A reply, as it is told.
+#[derive(Drop)]
+struct Shown(Reply);
 
-fn ended(heap: Global, r: Option<Refusal>) -> Result<String, AllocError>
-    ensures { IfOk result (λ s. string_bytes s ≡ ended_text r) }
-{
-    match r {
-        None => format!(in heap; "ended 0"),
-        Some(e) => refused(heap, e),
+impl fmt::Display for Shown {
+    ghost output = { λ shown. Some (reply_text shown.0) };
+
+    fn fmt<W: fmt::Write>(&self, f: &mut fmt::Formatter<W>) -> fmt::Result {
+        match self.0 {
+            Reply::OfEnter(Ok(o)) => write!(f, "enter {}", outcome_code(o)),
+            Reply::OfMark(Ok(slip)) => write!(f, "mark {}", slip.depth),
+            Reply::OfKeep(Ok(())) | Reply::OfTakeBack(Ok(())) => f.write_str("ended 0"),
+            Reply::OfAsk(Ok(answer)) => write!(f, "ask {}", verdict_code(answer.verdict)),
+            Reply::OfRead(Ok(n)) => write!(f, "read {n}"),
+            Reply::OfEnter(Err(e))
+            | Reply::OfMark(Err(e))
+            | Reply::OfKeep(Err(e))
+            | Reply::OfTakeBack(Err(e))
+            | Reply::OfAsk(Err(e))
+            | Reply::OfRead(Err(e)) => write!(f, "refused {e}"),
+        }
     }
 }
 
-fn shown(heap: Global, reply: Reply) -> Result<String, AllocError>
-    ensures { IfOk result (λ s. string_bytes s ≡ reply_text reply) }
+// The replies, each as it is told and with what parts it from the next.
+fn listed(heap: Global, replies: &[Reply]) -> Result<String, AllocError>
+    ensures { IfOk result (λ s. string_bytes s ≡ replies_text replies.now) }
 {
-    match reply {
-        Reply::OfEnter(Ok(o)) => {
-            let n = outcome_code(o);
-            format!(in heap; "enter {n}")
-        }
-        Reply::OfEnter(Err(e)) => refused(heap, e),
-        Reply::OfMark(Ok(t)) => {
-            let n = t.depth;
-            format!(in heap; "mark {n}")
-        }
-        Reply::OfMark(Err(e)) => refused(heap, e),
-        Reply::OfKeep(r) => ended(heap, r),
-        Reply::OfTakeBack(r) => ended(heap, r),
-        Reply::OfAsk(Ok(a)) => {
-            let n = verdict_code(a.verdict);
-            format!(in heap; "ask {n}")
-        }
-        Reply::OfAsk(Err(e)) => refused(heap, e),
-        Reply::OfRead(Ok(n)) => format!(in heap; "read {n}"),
-        Reply::OfRead(Err(e)) => refused(heap, e),
+    let mut text = String::new(heap);
+    for reply in replies {
+        let line = format!(in heap; "{}; ", Shown(*reply))?;
+        text.push_str(line.as_str())?;
     }
+    Ok(text)
 }
 
 // The replies to a list of at most sixteen calls, on a store numbered 3 over one record, card 7 of lot 9, under the symbol 1.
-fn told(heap: Global, calls: &[Call]) -> Result<String, AllocError> {
-    let mut text = String::new(heap);
+fn told(heap: Global, calls: &[Call]) -> Result<String, AllocError>
+    ensures { IfOk result (λ s. Told calls.now (string_bytes s)) }
+{
     let Ok(settings) = Settings::new(32, 1000) else {
-        return Ok(text);
+        unreachable()
     };
     let symbols = Symbols {
         lot: 1,
@@ -127,11 +93,11 @@ fn told(heap: Global, calls: &[Call]) -> Result<String, AllocError> {
         cycles: 3,
     };
     let records = Records::new(heap, &[3, 7, 0, 9, 0], symbols)?;
-    let mut pairs = Vec::from_elem(heap, Pair { left: 0, right: 0 }, 12864)?;
-    let mut frames = Vec::from_elem(heap, Frame::blank(), 512)?;
-    let mut replies = [Reply::OfKeep(None); 16];
+    let mut pairs = Vec::from_elem(heap, Pair::default(), PAIRS)?;
+    let mut frames = Vec::from_elem(heap, Frame::default(), FRAMES)?;
+    let mut replies = [Reply::OfKeep(Ok(())); 16];
     let mut path: [u16; 32] = [0; 32];
-    let mut out = [variable(0); 3];
+    let mut out = [Cell::variable(0); 3];
     let _ = replay(
         heap,
         settings,
@@ -145,15 +111,10 @@ fn told(heap: Global, calls: &[Call]) -> Result<String, AllocError> {
         &mut path,
         &mut out,
     )?;
-    for r in &replies {
-        let line = shown(heap, *r)?;
-        text.push_str(line.as_str())?;
-        text.push_str("; ")?;
-    }
-    Ok(text)
+    listed(heap, &replies)
 }
 
-// Equations, a mark and what taking it back leaves.
+// Equations, a mark and what taking it back leaves. The cells come from the caller, so that all are borrowed for one lifetime.
 fn taken_back<'a>(
     heap: Global,
     first: &'a [Cell],
@@ -161,7 +122,9 @@ fn taken_back<'a>(
     differ: &'a [Cell],
     clash: &'a [Cell],
     nothing: &'a [Cell],
-) -> Result<String, AllocError> {
+) -> Result<String, AllocError>
+    ensures { IfOk result (λ s. (calls : List CallOf) × Told calls (string_bytes s)) }
+{
     let slip = Slip { store: 3, depth: 1 };
     let calls = [
         Call::Enter(first),
@@ -187,7 +150,9 @@ fn asked<'a>(
     other: &'a [Cell],
     above: &'a [Cell],
     large: &'a [Cell],
-) -> Result<String, AllocError> {
+) -> Result<String, AllocError>
+    ensures { IfOk result (λ s. (calls : List CallOf) × Told calls (string_bytes s)) }
+{
     let calls = [
         Call::Enter(card),
         Call::Ask(lot),
@@ -202,19 +167,19 @@ fn asked<'a>(
 }
 
 fn main(rt: HostRuntime) -> anyhow::Result<()> {
-    let first = [variable(0), function(0, 1), variable(1)];
-    let second = [variable(1), constant(0, 5)];
-    let differ = [constant(0, 1), constant(0, 2)];
-    let clash = [variable(0), constant(0, 5)];
+    let first = [Cell::variable(0), Cell::symbol(0, 1), Cell::variable(1)];
+    let second = [Cell::variable(1), Cell::integer(5)];
+    let differ = [Cell::integer(1), Cell::integer(2)];
+    let clash = [Cell::variable(0), Cell::integer(5)];
     let line = taken_back(rt.alloc(), &first, &second, &differ, &clash, &[])?;
     rt.println(line.as_str())?;
-    let card = [variable(2), constant(2, 7)];
-    let lot = [function(1, 2), variable(2), variable(3)];
-    let other = [function(1, 2), variable(2), constant(2, 8)];
-    let above = [variable(32), variable(0)];
-    let mut large = [function(0, 1); 34];
-    large[32] = variable(0);
-    large[33] = variable(1);
+    let card = [Cell::variable(2), Cell::atom(7)];
+    let lot = [Cell::symbol(1, 2), Cell::variable(2), Cell::variable(3)];
+    let other = [Cell::symbol(1, 2), Cell::variable(2), Cell::atom(8)];
+    let above = [Cell::variable(32), Cell::variable(0)];
+    let mut large = [Cell::symbol(0, 1); 34];
+    large[32] = Cell::variable(0);
+    large[33] = Cell::variable(1);
     let line = asked(rt.alloc(), &card, &lot, &other, &above, &large)?;
     rt.println(line.as_str())?;
     Ok(())

@@ -1,9 +1,10 @@
-use Rattle.std.proofs.Common.{◌≡◌, ℕ, zero, suc, ◌+◌, ◌-◌, ◌<◌, ◌≤◌, Bool, true, false, cond, eqb, List, [], ◌∷◌, length, get_or, drop, Some, None, Option, sym, refl, ap, ◌∙◌, le_of_suc-le-suc, not-suc-le-zero, add-zero, add_assoc, suc-add, zero-add, arith}
-use Rattle.std.proofs.lemmas.List.{at_drop_more, at_drop_all, length-drop, get_or_past}
-use Rattle.std.proofs.lemmas.Bool.{cond-true, cond-false, eq-eqb}
+use Rattle.std.specs.Cmp.Derive.{one_truth}
+use Rattle.std.proofs.lemmas.List.Elements.{All-nil, All-cons, All-head, All-tail}
+use Rattle.std.proofs.Common.{subst, ◌≡◌, ◌↔◌, All, IsTrue, ℕ, zero, suc, ◌+◌, ◌-◌, ◌<◌, ◌≤◌, Bool, true, false, cond, List, [], ◌∷◌, length, get_or, drop, Some, None, Option, sym, refl, ap, ◌∙◌, le_of_suc-le-suc, not-suc-le-zero, add-zero, add_assoc, suc-add, zero-add, arith}
+use Rattle.std.proofs.lemmas.List.{at_drop_more, at_drop_all, length-drop}
+use Rattle.std.proofs.lemmas.Bool.{cond-true, cond-false}
 use Rattle.terms.specs.declared.Cell.{Cell}
-use Rattle.terms.specs.Kinds.{declared_kind}
-use Rattle.terms.specs.Shape.{skip, nothing_left, second_term, two_terms, term_cell, goal_cell, goals, low_cell, all_low, Ends}
+use Rattle.terms.specs.Shape.{skip, term_cell, goal_cell, goals, low_cell, all_low}
 
 some_not_none : {A : Type 0} (x : A) → Some x ≡ None → ⊥
 some_not_none x e = let z : ◌≡◌ {A = ℕ} 0 1 = cc in omega arith
@@ -33,20 +34,20 @@ skip_none (suc m) n (c ∷ cs) e =
     ∙ on_none (term_cell c) (skip (c.arity + m) cs) (skip (c.arity + (m + n)) cs)
     (λ h. ap (λ k. skip k cs) (sym (add_assoc c.arity m n)) ∙ skip_none (c.arity + m) n cs h) e
 
-pub skip_past : (at : ℕ) (cs : List Cell) → length cs ≤ at → skip 1 (drop at cs) ≡ None
-skip_past at cs h = at_drop_all (skip 1) cs at h
+-- the first cell begins a term, or does not
+pub skip_first : (c : Cell) (cs : List Cell) → term_cell c ≡ true → skip 1 (c ∷ cs) ≡ skip c.arity cs
+skip_first c cs f = cond-true (term_cell c) _ _ f ∙ ap (λ k. skip k cs) (add-zero c.arity)
 
-pub skip_unfit : (at : ℕ) (cs : List Cell) (d : Cell) → at < length cs → term_cell (get_or cs at d) ≡ false → skip 1 (drop at cs) ≡ None
-skip_unfit at cs d h f = at_drop_more (skip 1) cs at d h ∙ cond-false (term_cell (get_or cs at d)) _ _ f
-
-pub skip_fit : (at : ℕ) (cs : List Cell) (d : Cell) → at < length cs → term_cell (get_or cs at d) ≡ true → skip 1 (drop at cs) ≡ skip (get_or cs at d).arity (drop (at + 1) cs)
-skip_fit at cs d h f =
-    at_drop_more (skip 1) cs at d h ∙ (cond-true (term_cell (get_or cs at d)) _ _ f ∙ ap (λ k. skip k (drop (at + 1) cs)) (add-zero (get_or cs at d).arity))
-
--- a place that was read from a later start, or of equal cells left
-pub ends_from : (cells : List Cell) (at at' : ℕ) (x y : Option (List Cell)) (r : Option ℕ) → at ≤ at' → x ≡ y → Ends cells at' y r → Ends cells at x r
-ends_from cells at at' x y None h e w = e ∙ w
-ends_from cells at at' x y (Some p) h e w = (e ∙ w.0, omega (arith, w.1), w.2)
+-- each term takes a cell at least
+pub skip_shorter : (n : ℕ) (cs left : List Cell) → skip n cs ≡ Some left → length left + n ≤ length cs
+skip_shorter zero cs left e = let s : cs ≡ left = cc in subst (λ xs. length left + 0 ≤ length xs) (sym s) (omega arith)
+skip_shorter (suc n) [] left e = absurd (some_not_none left (sym e))
+skip_shorter (suc n) (c ∷ cs) left e = step (term_cell c) e (skip_shorter (c.arity + n) cs left)
+  where
+    step : (b : Bool) → cond b (skip (c.arity + n) cs) None ≡ Some left → (skip (c.arity + n) cs ≡ Some left → length left + (c.arity + n) ≤ length cs)
+        → length left + suc n ≤ length (c ∷ cs)
+    step true f h = let l = h f in omega arith
+    step false f h = absurd (some_not_none left (sym f))
 
 -- n terms, of which the first is none
 pub args_none : (n : ℕ) (cs : List Cell) → (n ≡ 0 → ⊥) → skip 1 cs ≡ None → skip n cs ≡ None
@@ -67,16 +68,6 @@ skip_short (suc n) (c ∷ cs) h = step (term_cell c) (skip_short (c.arity + n) c
 
 -- Terms that are due, cell by cell.
 
--- the next cell is one of a term that is due, or is not
-pub skip_term : (due at : ℕ) (cs : List Cell) (d : Cell) → 0 < due → at < length cs → term_cell (get_or cs at d) ≡ true
-    → skip due (drop at cs) ≡ skip (due - 1 + (get_or cs at d).arity) (drop (at + 1) cs)
-skip_term due at cs d p h f =
-    let e : due ≡ suc (due - 1) = omega arith in
-    let s : (get_or cs at d).arity + (due - 1) ≡ due - 1 + (get_or cs at d).arity = omega arith in
-    ap (λ m. skip m (drop at cs)) e
-    ∙ (at_drop_more (skip (suc (due - 1))) cs at d h
-    ∙ (cond-true (term_cell (get_or cs at d)) _ _ f ∙ ap (λ m. skip m (drop (at + 1) cs)) s))
-
 pub skip_no_term : (due at : ℕ) (cs : List Cell) (d : Cell) → 0 < due → at < length cs → term_cell (get_or cs at d) ≡ false → skip due (drop at cs) ≡ None
 skip_no_term due at cs d p h f =
     let e : due ≡ suc (due - 1) = omega arith in
@@ -86,33 +77,6 @@ pub skip_due : (due at : ℕ) (cs : List Cell) → length cs - at < due → skip
 skip_due due at cs h = skip_short due (drop at cs) (simp length-drop (omega arith))
 
 -- Two terms.
-
--- the first is none
-pub two_no_first : (cs : List Cell) → skip 1 cs ≡ None → two_terms cs ≡ None
-two_no_first cs e = ap (second_term (length cs)) e
-
--- the second is none
-pub two_no_second : (cs : List Cell) (p : ℕ) → skip 1 cs ≡ Some (drop p cs) → skip 1 (drop p cs) ≡ None → two_terms cs ≡ None
-two_no_second cs p e f = ap (second_term (length cs)) e ∙ ap (λ o. nothing_left o (length cs - length (drop p cs))) f
-
--- something is left after the second
-pub two_left : (cs : List Cell) (p q : ℕ) → skip 1 cs ≡ Some (drop p cs) → skip 1 (drop p cs) ≡ Some (drop q cs) → q < length cs → two_terms cs ≡ None
-two_left cs p q e f h =
-    ap (second_term (length cs)) e
-    ∙ (ap (λ o. nothing_left o (length cs - length (drop p cs))) f ∙ left (drop q cs) (length cs - length (drop p cs)) (simp length-drop (omega arith)))
-  where
-    left : (xs : List Cell) (n : ℕ) → 0 < length xs → nothing_left (Some xs) n ≡ None
-    left [] n z = absurd (omega arith)
-    left (x ∷ xs) n z = refl
-
--- nothing is left
-pub two_whole : (cs : List Cell) (p q : ℕ) → p ≤ length cs → skip 1 cs ≡ Some (drop p cs) → skip 1 (drop p cs) ≡ Some (drop q cs) → length cs ≤ q
-    → two_terms cs ≡ Some p
-two_whole cs p q l e f h =
-    let n : length cs - length (drop p cs) ≡ p = simp length-drop (omega arith) in
-    ap (second_term (length cs)) e
-    ∙ (ap (λ o. nothing_left o (length cs - length (drop p cs))) f
-    ∙ (at_drop_all (λ xs. nothing_left (Some xs) (length cs - length (drop p cs))) cs q h ∙ ap Some n))
 
 -- The number of goals.
 
@@ -155,6 +119,10 @@ goals_short k (suc n) (c ∷ cs) h = step (term_cell c) (goals_short k (c.arity 
 pub goals_end : (k n at : ℕ) (cs : List Cell) → length cs ≤ at → n ≡ 0 → goals k n (drop at cs) ≡ Some k
 goals_end k n at cs h e = ap (λ j. goals k j (drop at cs)) e ∙ at_drop_all (goals k 0) cs at h
 
+-- the first cell begins a goal
+pub goals_first : (k : ℕ) (c : Cell) (cs : List Cell) → goal_cell c ≡ true → goals k 0 (c ∷ cs) ≡ goals (k + 1) c.arity cs
+goals_first k c cs f = cond-true (goal_cell c) _ _ f
+
 -- the next cell begins a goal, or does not
 pub goals_goal : (k at : ℕ) (cs : List Cell) (d : Cell) → at < length cs → goal_cell (get_or cs at d) ≡ true → goals k 0 (drop at cs) ≡ goals (k + 1) (get_or cs at d).arity (drop (at + 1) cs)
 goals_goal k at cs d h f = at_drop_more (goals k 0) cs at d h ∙ cond-true (goal_cell (get_or cs at d)) _ _ f
@@ -187,17 +155,21 @@ goals_read k n cs mid e = ap (λ j. goals k j cs) (sym (add-zero n)) ∙ goals_m
 pub goals_unread : (k n : ℕ) (cs : List Cell) → skip n cs ≡ None → goals k n cs ≡ None
 goals_unread k n cs e = ap (λ j. goals k j cs) (sym (add-zero n)) ∙ goals_none k n 0 cs e
 
-pub low_not : (at : ℕ) (cs : List Cell) (d : Cell) → at < length cs → low_cell (get_or cs at d) ≡ false → all_low (drop at cs) ≡ false
-low_not at cs d h f = at_drop_more all_low cs at d h ∙ cond-false (low_cell (get_or cs at d)) _ _ f
+-- a variable's number is at most 31
+abbrev pub IsLow : Cell → Type 0
+IsLow c = IsTrue (low_cell c)
 
-pub low_more : (at : ℕ) (cs : List Cell) (d : Cell) → at < length cs → low_cell (get_or cs at d) ≡ true → all_low (drop at cs) ≡ all_low (drop (at + 1) cs)
-low_more at cs d h f = at_drop_more all_low cs at d h ∙ cond-true (low_cell (get_or cs at d)) _ _ f
+low_each : (cs : List Cell) → all_low cs ≡ true → All IsLow cs
+low_each [] e = All-nil IsLow
+low_each (c ∷ cs) e =
+    elim (low_cell c) as (λ b. low_cell c ≡ b → cond b (all_low cs) false ≡ true → All IsLow (c ∷ cs)) [
+      | true ↦ λ l f. All-cons IsLow c cs l (low_each cs f)
+      | false ↦ λ l f. cc
+    ] refl e
 
-pub low_all : (at : ℕ) (cs : List Cell) → length cs ≤ at → all_low (drop at cs) ≡ true
-low_all at cs h = at_drop_all all_low cs at h
+each_low : (cs : List Cell) → All IsLow cs → all_low cs ≡ true
+each_low [] a = refl
+each_low (c ∷ cs) a = cond-true (low_cell c) _ _ (All-head IsLow c cs a) ∙ each_low cs (All-tail IsLow c cs a)
 
--- past the end of the groups an atom is in group 0
-pub atom_past : (groups : List ℕ) (f v : ℕ) → f ≡ 2 → length groups ≤ v → 16 ≡ declared_kind groups f v
-atom_past groups f v e h =
-    let g = get_or_past groups v 0 h in
-    sym (cond-true (eqb f 2) (16 + get_or groups v 0) f (eq-eqb f 2 e) ∙ ap (λ n. 16 + n) g)
+pub all_low_of : (b : Bool) (cs : List Cell) → (IsTrue b ↔ All IsLow cs) → b ≡ all_low cs
+all_low_of b cs e = one_truth b (all_low cs) (λ t. each_low cs (e.0 t)) (λ t. e.1 (low_each cs t))

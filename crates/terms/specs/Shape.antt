@@ -1,5 +1,5 @@
 -- Which cells spell terms and goal lists.
-use Rattle.std.specs.Prelude.{◌≡◌, ℕ, zero, suc, ◌+◌, ◌-◌, ◌≤◌, Bool, true, false, cond, not, ◌&&◌, ◌||◌, List, [], ◌∷◌, length, drop, Some, None, Option, ◌==◌, nat_lt}
+use Rattle.std.specs.Prelude.{ℕ, zero, suc, ◌+◌, ◌-◌, Bool, true, false, cond, not, ◌&&◌, ◌||◌, List, [], ◌∷◌, length, Some, None, Option, ◌==◌, nat_lt}
 use Rattle.terms.specs.declared.Cell.{Cell}
 
 -- a cell of a term: a variable, a constant, or a function of 1 to 8 arguments; atoms, strings and symbols have numbers below 65,536
@@ -18,11 +18,6 @@ abbrev pub skip : ℕ → List Cell → Option (List Cell)
 skip zero cs = Some cs
 skip (suc n) [] = None
 skip (suc n) (c ∷ cs) = cond (term_cell c) (skip (c.arity + n) cs) None
-
--- a place in the cells stands for what is left from there on
-abbrev pub Ends : List Cell → ℕ → Option (List Cell) → Option ℕ → Type 0
-Ends cells at left None = left ≡ None
-Ends cells at left (Some p) = (left ≡ Some (drop p cells)) × (at ≤ p) × (p ≤ length cells)
 
 -- cells are left over, or none: where none, the answer
 abbrev pub nothing_left : Option (List Cell) → ℕ → Option ℕ

@@ -1,6 +1,6 @@
 // Which cells spell a goal list: a predicate cell and its arguments, goal after goal, each function cell being followed by its arguments.
-ghost use Rattle.std.specs.Prelude.{◌≡◌, ℕ, ◌+◌, ◌-◌, ◌<◌, ◌≤◌, Bool, true, false, length, drop};
-ghost use Rattle.terms.specs.Shape.{term_cell, goal_cell, low_cell, skip, Ends, two_terms, goals, all_low};
+ghost use Rattle.std.specs.Prelude.{◌≡◌, ℕ, ◌+◌, ◌-◌, ◌<◌, ◌≤◌, Bool, true, false, length, drop, Some, None, MatchOption};
+ghost use Rattle.terms.specs.Shape.{term_cell, goal_cell, low_cell, skip, two_terms, goals, all_low};
 
 use crate::Cell;
 
@@ -26,65 +26,55 @@ fn is_goal_cell(c: Cell) -> bool
     c.tag == 2 && c.form == 0 && c.arity < 9 && c.value < 65536
 }
 
-// The place after the term at `at`, or None where no term stands there.
-#[cycle(arguments_end_term_end)]
-fn term_end(cells: &[Cell], at: usize) -> Option<usize>
-    requires { at ≤ length cells.now }
-    ensures { Ends cells.now (at + 1) (skip 1 (drop at cells.now)) result }
+// What is left of the cells after the term that they begin with, or None where they begin with none.
+#[cycle(after_term_after_terms)]
+fn after_term(cells: &[Cell]) -> Option<&[Cell]>
+    ensures { MatchOption result (skip 1 cells.now ≡ None) (λ left. skip 1 cells.now ≡ Some left.now) }
 {
-    if at >= cells.len() {
+    let (c, arguments) = cells.split_first()?;
+    if !is_term_cell(*c) {
         return None;
     }
-    let c = cells[at];
-    if !is_term_cell(c) {
-        return None;
-    }
-    arguments_end(cells, at + 1, c.arity)
+    after_terms(arguments, c.arity)
 }
 
-// The place after `n` terms.
-#[cycle(arguments_end_term_end)]
-fn arguments_end(cells: &[Cell], at: usize, n: u8) -> Option<usize>
-    requires { at ≤ length cells.now }
-    ensures { Ends cells.now at (skip n (drop at cells.now)) result }
+// What is left after `n` terms.
+#[cycle(after_term_after_terms)]
+fn after_terms(cells: &[Cell], n: u8) -> Option<&[Cell]>
+    ensures { MatchOption result (skip n cells.now ≡ None) (λ left. skip n cells.now ≡ Some left.now) }
 {
     if n == 0 {
-        return Some(at);
+        return Some(cells);
     }
-    let next = term_end(cells, at)?;
-    arguments_end(cells, next, n - 1)
+    let rest = after_term(cells)?;
+    after_terms(rest, n - 1)
 }
 
-// The place after the term at `at`, cell by cell with a count of the terms that are due: however deep the terms nest, no stack is used.
-fn end_by_cells(cells: &[Cell], at: usize) -> Option<usize>
-    requires { at ≤ length cells.now }
-    ensures { Ends cells.now at (skip 1 (drop at cells.now)) result }
+// What is left after the term, cell by cell with a count of the terms that are due: however deep the terms nest, no stack is used.
+fn after_by_cells(cells: &[Cell]) -> Option<&[Cell]>
+    ensures { MatchOption result (skip 1 cells.now ≡ None) (λ left. skip 1 cells.now ≡ Some left.now) }
 {
-    let mut next = at;
     let mut due: usize = 1;
-    while due > 0 {
-        if due > cells.len() - next {
-            return None;
-        }
-        let c = cells[next];
-        if !is_term_cell(c) {
+    for (i, c) in cells.iter().enumerate() {
+        if due > cells.len() - i || !is_term_cell(*c) {
             return None;
         }
         due = due - 1 + c.arity as usize;
-        next += 1;
+        if due == 0 {
+            return Some(&cells[i + 1..]);
+        }
     }
-    Some(next)
+    None
 }
 
-// The place after the term at `at`, in few cells by its parts, in many cell by cell.
-fn one_end(cells: &[Cell], at: usize) -> Option<usize>
-    requires { at ≤ length cells.now }
-    ensures { Ends cells.now at (skip 1 (drop at cells.now)) result }
+// What is left after the term, in few cells by its parts, in many cell by cell.
+fn after_one(cells: &[Cell]) -> Option<&[Cell]>
+    ensures { MatchOption result (skip 1 cells.now ≡ None) (λ left. skip 1 cells.now ≡ Some left.now) }
 {
     if cells.len() <= FEW {
-        term_end(cells, at)
+        after_term(cells)
     } else {
-        end_by_cells(cells, at)
+        after_by_cells(cells)
     }
 }
 
@@ -92,10 +82,9 @@ fn one_end(cells: &[Cell], at: usize) -> Option<usize>
 pub fn two_terms(cells: &[Cell]) -> Option<usize>
     ensures { result ≡ two_terms cells.now }
 {
-    let second = one_end(cells, 0)?;
-    let end = one_end(cells, second)?;
-    if end == cells.len() {
-        Some(second)
+    let second = after_one(cells)?;
+    if after_one(second)?.is_empty() {
+        Some(cells.len() - second.len())
     } else {
         None
     }
@@ -105,14 +94,13 @@ pub fn two_terms(cells: &[Cell]) -> Option<usize>
 fn goals_by_parts(cells: &[Cell]) -> Option<usize>
     ensures { result ≡ goals 0 0 cells.now }
 {
-    let mut at: usize = 0;
+    let mut rest = cells;
     let mut n: usize = 0;
-    while at < cells.len() {
-        let c = cells[at];
-        if !is_goal_cell(c) {
+    while let Some((c, arguments)) = rest.split_first() {
+        if !is_goal_cell(*c) {
             return None;
         }
-        at = arguments_end(cells, at + 1, c.arity)?;
+        rest = after_terms(arguments, c.arity)?;
         n += 1;
     }
     Some(n)
@@ -166,10 +154,5 @@ fn is_low(c: Cell) -> bool
 pub fn low_variables(cells: &[Cell]) -> bool
     ensures { result ≡ all_low cells.now }
 {
-    for c in cells {
-        if !is_low(*c) {
-            return false;
-        }
-    }
-    true
+    cells.iter().all(|c| is_low(*c))
 }

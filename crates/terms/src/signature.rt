@@ -10,7 +10,7 @@ pub trait Signature {
 }
 
 // A constant's kind is its form.
-#[derive(Clone, Copy)]
+#[derive(Clone, Copy, Debug, Default, PartialEq, Eq)]
 pub struct ByForm;
 
 impl Signature for ByForm {
@@ -23,7 +23,7 @@ impl Signature for ByForm {
 
 // Each symbol has a group: byte i of the groups is that of symbol i, and past their end it is 0. An atom's kind is 16 plus its group, so atoms of two
 // groups have two kinds, and none is the kind of another form.
-#[derive(Clone, Copy)]
+#[derive(Clone, Copy, Debug)]
 pub struct Declared<'a> {
     pub groups: &'a [u8],
 }
@@ -35,11 +35,7 @@ impl Signature for Declared<'_> {
         if form != 2 {
             return form as u16;
         }
-        let at = value as usize;
-        if at < self.groups.len() {
-            16 + self.groups[at] as u16
-        } else {
-            16
-        }
+        let group = self.groups.get(value as usize).copied().unwrap_or(0);
+        16 + group as u16
     }
 }

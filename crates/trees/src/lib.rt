@@ -8,29 +8,21 @@ ghost use Rattle.trees.specs.Worked.{Worked};
 ghost use Rattle.trees.specs.Arguments.{ArgumentsLaw};
 
 // The success leaves of a node's tree are its proofs within the limit; the path told is that of a proof, and none is better; a node has one tree.
-pub fn tree_stands() -> u8
+pub fn tree_stands()
     ensures { TreeTheory }
-{
-    0
-}
+{}
 
 // The summary of a tree is a fold over its leaves in order, and a search on a stack of work gathers it.
-pub fn search_stands() -> u8
+pub fn search_stands()
     ensures { SummaryLaw × SearchLaw × MovesLaw × RootLaw × CountLaw }
-{
-    0
-}
+{}
 
 // Worked questions, joined in one statement.
-pub fn worked_examples_stand() -> u8
+pub fn worked_examples_stand()
     ensures { Worked }
-{
-    0
-}
+{}
 
 // One equation of two goals is as good as the equations of their arguments.
-pub fn arguments_stand() -> u8
+pub fn arguments_stand()
     ensures { ArgumentsLaw }
-{
-    0
-}
+{}

@@ -1,5 +1,9 @@
+pub mod Places
+pub mod Linked
 pub mod Stacks
+pub mod Meeting
 pub mod Runs
+pub mod Marks
 pub mod Opened
 pub mod Settled
 pub mod States

@@ -1,6 +1,6 @@
 -- Reading a variable: the links' solved form is the reading of the equations, and a root is spelt by its cell and its arguments.
 use Rattle.std.proofs.Common.{◌≡◌, ℕ, suc, ◌+◌, ◌-◌, ◌<◌, ◌≤◌, true, ◌⊎◌, List, [], ◌∷◌, ◌++◌, map, length, take, drop, set, Some, None, Option, sym, refl, ap, ◌∙◌, subst, inl, inr, arith}
-use Rattle.std.proofs.lemmas.List.{append_assoc, length-append, length-take-le, take_at, drop_at, drop-drop, set_split, take-append-drop, get_or_past, length-set}
+use Rattle.std.proofs.lemmas.List.{append_assoc, length-append, length-take-le, take_at, drop_at, drop-drop, set_split, take-append-drop, length-set}
 use Rattle.typing.specs.Terms.{Term, Terms, var, con, fun, none, more, Eqs, Subst, apply, applies, Signature, MostGeneral}
 use Rattle.typing.specs.Terms as Typing
 use Rattle.typing.specs.Rules.{Reads}
@@ -11,13 +11,13 @@ use Rattle.graphs.specs.Terms.{pack}
 use Rattle.graphs.specs.Graph.{Shape, free, atom, app, find, solution}
 use Rattle.graphs.specs.Links.{up_of}
 use Rattle.graphs.specs.Meaning.{arena, term_algebra, answer}
-use Rattle.graphs.specs.Cells.{graph, node_at, after, arguments}
+use Rattle.graphs.specs.Cells.{graph, arguments}
 use Rattle.graphs.specs.Flat.{flat, count}
 use Rattle.graphs.proofs.Arena.{app_arguments}
 use Rattle.graphs.proofs.CellLaws.{arguments_length}
 use Rattle.graphs.proofs.Final.{solution_values, solution_linked, solution_free}
 use Rattle.graphs.proofs.Outcomes.{told_solved, answer_lowest}
-use Rattle.graphs.proofs.Walks.{walk_fixed, walk_keeps}
+use Rattle.graphs.proofs.Walks.{walk_keeps}
 use Rattle.unification.specs.Standing.{Standing}
 use Rattle.unification.specs.Reading.{SolvedForm, head_of, spelt, Counts, Counting, spliced, Writes, Writing, Written, ReadsVariable}
 use Rattle.unification.proofs.Standing.{unifies_in, unifies_out}
@@ -72,10 +72,6 @@ module _ (kind : Signature) (cs : List Cell) (small : length cs ≤ 1568) (l : L
     bare = λ r top q. solution_free term_algebra (λ n. var (n - arena)) (graph cs) (up_of l) rank s.going.sound s.acyclic.1 r top q;
   }
 
--- a node past the end is its own root
-pub root_past : (l : List ℕ) (n : ℕ) → length l ≤ n → (n ≡ find (up_of l) n) × (up_of l n ≡ n)
-root_past l n h = let e = get_or_past l n n h in (sym (walk_fixed (up_of l) n n e), e)
-
 count_pack : (ρ : ℕ → Term) (ks : List ℕ) → count (pack (map ρ ks)) ≡ length ks
 count_pack ρ [] = refl
 count_pack ρ (k ∷ ks) = ap suc (count_pack ρ ks)
@@ -100,14 +96,6 @@ module _ (cs : List Cell) (small : length cs ≤ 1568) (l : List ℕ) (ρ : ℕ 
   pub node_spelt : (n r : ℕ) (c : Cell) → r ≡ find (up_of l) n → up_of l r ≡ r → c ≡ head_of (graph cs r) r → flat (ρ n) ≡ c ∷ spelt ρ (arguments cs c.arity (r + 1))
   node_spelt n r c re top ce =
       ap flat (walk_keeps (up_of l) ρ s.linked n n ∙ ap ρ (sym re)) ∙ (root_spelt r top ∙ ap (λ x. x ∷ spelt ρ (arguments cs x.arity (r + 1))) (sym ce))
-
--- the spelling of the arguments from one on
-pub spelt_more : (ρ : ℕ → Term) (cs : List Cell) (n i place : ℕ) → i < n
-    → spelt ρ (arguments cs (n - i) place) ≡ flat (ρ (node_at cs place)) ++ spelt ρ (arguments cs (n - (i + 1)) (after cs place))
-spelt_more ρ cs n i place h = let z : n - i ≡ suc (n - (i + 1)) = omega arith in ap (λ m. spelt ρ (arguments cs m place)) z
-
-pub spelt_none : (ρ : ℕ → Term) (cs : List Cell) (n i place : ℕ) → n ≤ i → spelt ρ (arguments cs (n - i) place) ≡ []
-spelt_none ρ cs n i place h = let z : n - i ≡ 0 = omega arith in ap (λ m. spelt ρ (arguments cs m place)) z
 
 -- cells written one after another
 pub splice_splice : (out : List Cell) (at : ℕ) (xs ys : List Cell) → at + length xs ≤ length out → spliced (spliced out at xs) (at + length xs) ys ≡ spliced out at (xs ++ ys)
@@ -136,16 +124,16 @@ splice_set out at c ys h =
 
 -- the arguments of a root, counted one after another
 module _ (cs : List Cell) (l : List ℕ) (r n : ℕ) where
-  pub count_start : (room : ℕ) → 0 < room → Counting cs l r n room (room - 1) (r + 1) 0
-  count_start room h = (omega arith, λ ρ s. let z : n - 0 ≡ n = omega arith in let e = ap (λ m. length (spelt ρ (arguments cs m (r + 1)))) z in omega arith)
+  pub count_start : (room : ℕ) → 0 < room → Counting cs l r n room (room - 1) (arguments cs n (r + 1))
+  count_start room h = (omega arith, λ ρ s. omega arith)
 
-  module _ (room rest place i : ℕ) (inv : Counting cs l r n room rest place i) where
-    pub count_more : i < n → (k : ℕ) → k < rest → Counts cs l (node_at cs place) rest (Some k) → Counting cs l r n room k (after cs place) (i + 1)
-    count_more h k less w =
+  module _ (room rest : ℕ) (ks : List ℕ) (inv : Counting cs l r n room rest ks) where
+    pub count_more : (k : ℕ) (ks' : List ℕ) → ks ≡ k ∷ ks' → (left : ℕ) → left < rest → Counts cs l k rest (Some left) → Counting cs l r n room left ks'
+    count_more k ks' e left less w =
         let a = inv.0 in (
           omega arith,
           λ ρ s.
-              let e = ap length (spelt_more ρ cs n i place h) ∙ length-append (flat (ρ (node_at cs place))) (spelt ρ (arguments cs (n - (i + 1)) (after cs place))) in
+              let f = ap (λ (x : List ℕ). length (spelt ρ x)) e ∙ length-append (flat (ρ k)) (spelt ρ ks') in
               let b = inv.1 ρ s in let d = w ρ s in omega arith,
         )
 
@@ -155,14 +143,14 @@ module _ (cs : List Cell) (l : List ℕ) (r n : ℕ) where
           let f : length (flat (ρ node)) ≡ 1 + length (spelt ρ (arguments cs c.arity (r + 1))) = ap length (node_spelt cs small l ρ s node r c re top ce) ∙ (omega arith) in
           f ∙ ap (λ m. 1 + length (spelt ρ (arguments cs m (r + 1)))) (sym ne)
 
-      pub count_short : i < n → Counts cs l (node_at cs place) rest None → Counts cs l node room None
-      count_short h w ρ s =
-          let e = ap length (spelt_more ρ cs n i place h) ∙ length-append (flat (ρ (node_at cs place))) (spelt ρ (arguments cs (n - (i + 1)) (after cs place))) in
-          let b = inv.1 ρ s in let d = w ρ s in let f = whole_length ρ s in omega arith
+      pub count_short : (k : ℕ) (ks' : List ℕ) → ks ≡ k ∷ ks' → Counts cs l k rest None → Counts cs l node room None
+      count_short k ks' e w ρ s =
+          let f = ap (λ (x : List ℕ). length (spelt ρ x)) e ∙ length-append (flat (ρ k)) (spelt ρ ks') in
+          let b = inv.1 ρ s in let d = w ρ s in let g = whole_length ρ s in omega arith
 
-      pub count_end : n ≤ i → Counts cs l node room (Some rest)
-      count_end h ρ s =
-          let e = ap length (spelt_none ρ cs n i place h) in let b = inv.1 ρ s in let f = whole_length ρ s in omega arith
+      pub count_end : ks ≡ [] → Counts cs l node room (Some rest)
+      count_end e ρ s =
+          let f = ap (λ (x : List ℕ). length (spelt ρ x)) e in let b = inv.1 ρ s in let g = whole_length ρ s in omega arith
 
 -- a spelling is not empty
 flat_some : (t : Term) → 1 ≤ length (flat t)
@@ -175,24 +163,18 @@ count_none cs l node room z ρ s = let a = flat_some (ρ node) in omega arith
 
 -- and written one after another
 module _ (cs : List Cell) (l : List ℕ) (r n : ℕ) (out₀ : List Cell) (at₀ : ℕ) where
-  pub write_start : Writing cs l r n out₀ at₀ out₀ at₀ (r + 1) 0
-  write_start = (
-    refl,
-    omega arith,
-    λ ρ s h.
-        let z : n - 0 ≡ n = omega arith in
-        (ap (λ m. at₀ + length (spelt ρ (arguments cs m (r + 1)))) z, ap (λ m. spliced out₀ at₀ (spelt ρ (arguments cs m (r + 1)))) z),
-  )
+  pub write_start : Writing cs l r n out₀ at₀ out₀ at₀ (arguments cs n (r + 1))
+  write_start = (refl, omega arith, λ ρ s h. (refl, refl))
 
-  module _ (out : List Cell) (at place i : ℕ) (inv : Writing cs l r n out₀ at₀ out at place i) where
-    pub write_more : i < n → (out' : List Cell) (at' : ℕ) → length out' ≡ length out → at ≤ at' → Writes cs l (node_at cs place) out at out' at' → Writing cs l r n out₀ at₀ out' at' (after cs place) (i + 1)
-    write_more h out' at' le on w =
+  module _ (out : List Cell) (at : ℕ) (ks : List ℕ) (inv : Writing cs l r n out₀ at₀ out at ks) where
+    pub write_more : (k : ℕ) (ks' : List ℕ) → ks ≡ k ∷ ks' → (out' : List Cell) (at' : ℕ) → length out' ≡ length out → at ≤ at' → Writes cs l k out at out' at' → Writing cs l r n out₀ at₀ out' at' ks'
+    write_more k ks' is out' at' le on w =
         let a = inv.0 in let b = inv.1 in (
           omega arith,
           omega arith,
           λ ρ s fit.
-              let xs = flat (ρ (node_at cs place)) in let ys = spelt ρ (arguments cs (n - (i + 1)) (after cs place)) in
-              let m = spelt_more ρ cs n i place h in
+              let xs = flat (ρ k) in let ys = spelt ρ ks' in
+              let m : spelt ρ ks ≡ xs ++ ys = ap (spelt ρ) is in
               let e = ap length m ∙ length-append xs ys in
               let v = inv.2 ρ s fit in let v0 = v.0 in
               let d = w ρ s (omega arith) in let d0 = d.0 in
@@ -201,16 +183,16 @@ module _ (cs : List Cell) (l : List ℕ) (r n : ℕ) (out₀ : List Cell) (at₀
         )
 
 -- the root's cell, and its arguments after it
-pub write_end : (cs : List Cell) → length cs ≤ 1568 → (l : List ℕ) (node r n : ℕ) (c : Cell) (out : List Cell) (at : ℕ) (out' : List Cell) (at' place i : ℕ) → r ≡ find (up_of l) node → up_of l r ≡ r → c ≡ head_of (graph cs r) r → n ≡ c.arity
-    → at < length out → Writing cs l r n (set out at c) (at + 1) out' at' place i → n ≤ i → Writes cs l node out at out' at'
-write_end cs small l node r n c out at out' at' place i re top ce ne h inv e ρ s fit =
+pub write_end : (cs : List Cell) → length cs ≤ 1568 → (l : List ℕ) (node r n : ℕ) (c : Cell) (out : List Cell) (at : ℕ) (out' : List Cell) (at' : ℕ) (ks : List ℕ) → r ≡ find (up_of l) node → up_of l r ≡ r → c ≡ head_of (graph cs r) r → n ≡ c.arity
+    → at < length out → Writing cs l r n (set out at c) (at + 1) out' at' ks → ks ≡ [] → Writes cs l node out at out' at'
+write_end cs small l node r n c out at out' at' ks re top ce ne h inv e ρ s fit =
     let all = spelt ρ (arguments cs n (r + 1)) in
     let f : flat (ρ node) ≡ c ∷ all = node_spelt cs small l ρ s node r c re top ce ∙ ap (λ m. c ∷ spelt ρ (arguments cs m (r + 1))) (sym ne) in
     let k : length (flat (ρ node)) ≡ 1 + length all = ap length f ∙ (omega arith) in
     let j = length-set out at c in
     let v = inv.2 ρ s (omega arith) in let v0 = v.0 in
-    let z = spelt_none ρ cs n i place e in let y = ap length z in
-    let g : out' ≡ spliced out' at' (spelt ρ (arguments cs (n - i) place)) = sym (ap (spliced out' at') z ∙ splice_none out' at') in
+    let z : spelt ρ ks ≡ [] = ap (spelt ρ) e in let y = ap length z in
+    let g : out' ≡ spliced out' at' (spelt ρ ks) = sym (ap (spliced out' at') z ∙ splice_none out' at') in
     (omega arith, g ∙ (v.1 ∙ (splice_set out at c all h ∙ ap (spliced out at) (sym f))))
 
 -- a full slice has no room for a term
@@ -225,25 +207,13 @@ form_reads cs small l v out r out' w kind E θ s reads =
     subst (λ t. Written (flat t) out r out') (sym e) (w _ (answer_form kind cs small l E s))
 
 -- what both walks tell of a variable's node
-module _ (cs cs' : List Cell) (small : length cs ≤ 1568) (l l' : List ℕ) (v : ℕ) (out : List Cell) (ce : cs' ≡ cs) (le : l' ≡ l) where
-  pub read_none : Counts cs' l' (arena + v) (length out) None → ReadsVariable cs l v out None out
-  read_none w = form_reads cs small l v out None out (λ ρ s. (at-links ρ s, refl))
-    where
-      at_cells : Counts cs l' (arena + v) (length out) None
-      at_cells = subst (λ x. Counts x l' (arena + v) (length out) None) ce w
+module _ (cs : List Cell) (small : length cs ≤ 1568) (l : List ℕ) (v : ℕ) (out : List Cell) where
+  pub read_none : Counts cs l (arena + v) (length out) None → ReadsVariable cs l v out None out
+  read_none w = form_reads cs small l v out None out (λ ρ s. (w ρ s, refl))
 
-      at-links : Counts cs l (arena + v) (length out) None
-      at-links = subst (λ x. Counts cs x (arena + v) (length out) None) le at_cells
-
-  pub read_some : (rest : ℕ) → Counts cs' l' (arena + v) (length out) (Some rest) → (out' : List Cell) (end : ℕ) → Writes cs' l' (arena + v) out 0 out' end → ReadsVariable cs l v out (Some end) out'
+  pub read_some : (rest : ℕ) → Counts cs l (arena + v) (length out) (Some rest) → (out' : List Cell) (end : ℕ) → Writes cs l (arena + v) out 0 out' end → ReadsVariable cs l v out (Some end) out'
   read_some rest w out' end x = form_reads cs small l v out (Some end) out' (λ ρ s.
-      let k = counts ρ s in
-      let y = writes ρ s (omega arith) in let e = y.0 in
+      let k = w ρ s in
+      let y = x ρ s (omega arith) in let e = y.0 in
       let z : 0 + length (flat (ρ (arena + v))) ≡ length (flat (ρ (arena + v))) = omega arith in
       (omega arith, omega arith, y.1 ∙ ap (λ q. flat (ρ (arena + v)) ++ drop q out) z))
-    where
-      counts : Counts cs l (arena + v) (length out) (Some rest)
-      counts = subst (λ q. Counts cs q (arena + v) (length out) (Some rest)) le (subst (λ q. Counts q l' (arena + v) (length out) (Some rest)) ce w)
-
-      writes : Writes cs l (arena + v) out 0 out' end
-      writes = subst (λ q. Writes cs q (arena + v) out 0 out' end) le (subst (λ q. Writes q l' (arena + v) out 0 out' end) ce x)

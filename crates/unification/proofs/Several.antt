@@ -6,12 +6,15 @@ use Rattle.typing.specs.Terms as Typing
 use Rattle.typing.specs.Rules.{Means}
 use Rattle.terms.specs.declared.Cell.{Cell}
 use Rattle.graphs.specs.declared.Pair.{Pair}
-use Rattle.graphs.specs.Links.{up_of, Down}
+use Rattle.graphs.specs.Links.{up_of}
 use Rattle.graphs.specs.Meaning.{arena, decode, AllLive, Going}
-use Rattle.graphs.specs.Cells.{graph, node_at, all_fit}
+use Rattle.graphs.specs.Cells.{graph, node_at}
 use Rattle.unification.specs.declared.Equation.{Equation}
 use Rattle.unification.specs.declared.Outcome.{Outcome}
 use Rattle.unification.specs.declared.Outcome.TheVariants.{Solved, False, Wrong}
+use Rattle.unification.specs.declared.arena.Arena.{Arena}
+use Rattle.unification.specs.declared.links.Links.{Links}
+use Rattle.unification.specs.State.{cells_in, links_in}
 use Rattle.unification.specs.Run.{Ready, Within}
 use Rattle.unification.specs.Outcomes.{Tells, Leads}
 use Rattle.unification.specs.Standing.{named, between, decoded, Standing}
@@ -19,7 +22,8 @@ use Rattle.unification.specs.Several.{stacked, SpeltAt, UnifiedAll}
 use Rattle.graphs.proofs.CellLaws.{node_alive}
 use Rattle.graphs.proofs.Flats.{stands_decode}
 use Rattle.graphs.proofs.Grow.{going_push}
-use Rattle.graphs.proofs.Wholes.{node_below, owes_room}
+use Rattle.graphs.proofs.Wholes.{owes_room}
+use Rattle.unification.proofs.Runs.{laid}
 use Rattle.unification.proofs.Settled.{live_append}
 use Rattle.unification.proofs.Standing.{told_means}
 
@@ -97,34 +101,15 @@ module _ (cs : List Cell) (small : length cs ≤ 1568) where
     pub unified_all : (o : Outcome) → Tells kind cs l (stacked cs es []) l' o → Leads kind cs l (stacked cs es []) l' o → UnifiedAll kind cs l es l' o
     unified_all o tells leads E F s spelt = (all_means E F s spelt o tells, all_standing E F s spelt o leads)
 
--- unless all are solved, nothing is told of the links after
-pub unified_false : (kind : ℕ → ℕ → ℕ) (cs : List Cell) (l : List ℕ) (es : List Equation) (l' back : List ℕ) → UnifiedAll kind cs l es l' False → UnifiedAll kind cs l es back False
-unified_false kind cs l es l' back u E F s spelt = ((u E F s spelt).0, λ e. let z : ◌≡◌ {A = ℕ} 0 1 = cc in absurd (omega arith))
-
-pub unified_wrong : (kind : ℕ → ℕ → ℕ) (cs : List Cell) (l : List ℕ) (es : List Equation) (l' back : List ℕ) → UnifiedAll kind cs l es l' Wrong → UnifiedAll kind cs l es back Wrong
-unified_wrong kind cs l es l' back u E F s spelt = ((u E F s spelt).0, λ e. let z : ◌≡◌ {A = ℕ} 0 1 = cc in absurd (omega arith))
-
 -- the stack of all equations is ready to be solved
-pub all_ready : (cs cs' : List Cell) (l l' : List ℕ) (es : List Equation) (st : List Pair) (n m : ℕ) → cs' ≡ cs → l' ≡ l → length cs ≤ 1568 → all_fit cs ≡ true → Down l → length l ≡ 2624
-    → st ≡ stacked cs' es [] → n ≤ 16 → 12864 ≤ m → Ready cs' l' st n m
-all_ready cs cs' l l' es st n m ce le small fit down nodes se ne room =
-    subst (λ c. Ready c l' st n m) (sym ce) (subst (λ x. Ready cs x st n m) (sym le)
-    (let o = owes_room cs l small fit in
-    let se' : st ≡ stacked cs es [] = subst (λ c. st ≡ stacked c es []) ce se in
-    let bound : (p : ℕ) → node_at cs p < length l = λ p. let a = node_below cs small fit p in omega arith in
-    record {
-      small = small;
-      down = down;
-      within = subst (λ s. Within cs (length l) s) (sym se') (within_stacked cs small (length l) bound es [] tt);
-      named = bound;
-      room = omega arith;
-    }))
+pub all_ready : (a : Arena) (k : Links) (es : List Equation) (st : List Pair) (n m : ℕ) → st ≡ stacked (cells_in a) es [] → n ≤ 16 → 12864 ≤ m → Ready (cells_in a) (links_in k) st n m
+all_ready a k es st n m se ne room =
+    let cs = cells_in a in let l = links_in k in let f = laid a k in
+    let o = owes_room cs l f.small a.fit in
+    record { within = subst (λ s. Within cs (length l) s) (sym se) (within_stacked cs f.small (length l) f.named es [] tt); room = omega arith }
 
 -- what is told of the stack, told of the equations
-pub all_unified : (kind : ℕ → ℕ → ℕ) (cs cs' : List Cell) (l l' : List ℕ) (es : List Equation) (st : List Pair) (after back : List ℕ) (o : Outcome) → cs' ≡ cs → l' ≡ l → length cs ≤ 1568
-    → st ≡ stacked cs' es [] → back ≡ after → Tells kind cs' l' st after o → Leads kind cs' l' st after o → UnifiedAll kind cs l es back o
-all_unified kind cs cs' l l' es st after back o ce le small se be tells leads =
-    let se' : st ≡ stacked cs es [] = subst (λ c. st ≡ stacked c es []) ce se in
-    let t = subst (λ s. Tells kind cs l s after o) se' (subst (λ x. Tells kind cs x st after o) le (subst (λ c. Tells kind c l' st after o) ce tells)) in
-    let d = subst (λ s. Leads kind cs l s after o) se' (subst (λ x. Leads kind cs x st after o) le (subst (λ c. Leads kind c l' st after o) ce leads)) in
-    subst (λ b. UnifiedAll kind cs l es b o) (sym be) (unified_all cs small kind l es after o t d)
+pub all_unified : (kind : ℕ → ℕ → ℕ) (cs : List Cell) (l : List ℕ) (es : List Equation) (st : List Pair) (after : List ℕ) (o : Outcome) → length cs ≤ 1568
+    → st ≡ stacked cs es [] → Tells kind cs l st after o → Leads kind cs l st after o → UnifiedAll kind cs l es after o
+all_unified kind cs l es st after o small se tells leads =
+    unified_all cs small kind l es after o (subst (λ s. Tells kind cs l s after o) se tells) (subst (λ s. Leads kind cs l s after o) se leads)

@@ -1,7 +1,9 @@
 pub mod Held
 pub mod Run
+pub mod Marks
 pub mod Outcomes
 pub mod State
 pub mod Standing
 pub mod Several
 pub mod Reading
+pub mod Arguments

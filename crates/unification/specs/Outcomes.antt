@@ -1,5 +1,5 @@
 -- What the outcome of an equation means.
-use Rattle.std.specs.Prelude.{◌≡◌, ℕ, ◌+◌, Bool, true, false, cond, ◌&&◌, List, [], ◌∷◌, ◌++◌, length, get_or, ◌==◌, nat_lt, slice_index_or}
+use Rattle.std.specs.Prelude.{◌≡◌, ℕ, ◌+◌, Bool, true, false, cond, ◌&&◌, List, [], ◌∷◌, ◌++◌, length, get_or, Some, None, Option, ◌==◌, nat_lt, slice_index_or}
 use Rattle.terms.specs.declared.Cell.{Cell}
 use Rattle.graphs.specs.declared.Pair.{Pair}
 use Rattle.unification.specs.declared.Outcome.{Outcome}
@@ -21,6 +21,10 @@ same_functor x y = x.tag == 2 && (y.tag == 2 && (x.value == y.value && x.arity =
 -- whether such stand at two places
 abbrev pub functors_match : List Cell → ℕ → ℕ → Bool
 functors_match cs left right = (nat_lt left (length cs) && nat_lt right (length cs)) && same_functor (slice_index_or cs left blank) (slice_index_or cs right blank)
+
+-- the arity of two such
+abbrev pub shared_arity : List Cell → ℕ → ℕ → Option ℕ
+shared_arity cs left right = cond (functors_match cs left right) (Some (slice_index_or cs left blank).arity) None
 
 -- an equation stacked: between functions of one symbol and arity, as those between their arguments
 abbrev pub opened : List Cell → ℕ → ℕ → List Pair → List Pair

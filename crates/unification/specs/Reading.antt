@@ -35,10 +35,10 @@ Taken room k None = room < k
 abbrev pub Counts : List Cell → List ℕ → ℕ → ℕ → Option ℕ → Type 0
 Counts cs l n room o = (ρ : ℕ → Term) → SolvedForm cs l ρ → Taken room (length (flat (ρ n))) o
 
--- amid the n arguments of a root: i of them are counted, and the next one stands at place
-abbrev pub Counting : List Cell → List ℕ → ℕ → ℕ → ℕ → ℕ → ℕ → ℕ → Type 0
-Counting cs l r n room rest place i = (rest < room) × ((ρ : ℕ → Term) → SolvedForm cs l ρ
-    → rest + length (spelt ρ (arguments cs n (r + 1))) + 1 ≡ room + length (spelt ρ (arguments cs (n - i) place)))
+-- amid the n arguments of a root: those of the nodes ks are not counted yet
+abbrev pub Counting : List Cell → List ℕ → ℕ → ℕ → ℕ → ℕ → List ℕ → Type 0
+Counting cs l r n room rest ks = (rest < room) × ((ρ : ℕ → Term) → SolvedForm cs l ρ
+    → rest + length (spelt ρ (arguments cs n (r + 1))) + 1 ≡ room + length (spelt ρ ks))
 
 -- the cells xs in place of those from a place on
 abbrev pub spliced : List Cell → ℕ → List Cell → List Cell
@@ -49,12 +49,12 @@ abbrev pub Writes : List Cell → List ℕ → ℕ → List Cell → ℕ → Lis
 Writes cs l n out at out' end = (ρ : ℕ → Term) → SolvedForm cs l ρ → at + length (flat (ρ n)) ≤ length out
     → (end ≡ at + length (flat (ρ n))) × (out' ≡ spliced out at (flat (ρ n)))
 
--- amid the n arguments of a root, from the slice out₀ and the place at₀ on: i of them are written, and the next one stands at place
-abbrev pub Writing : List Cell → List ℕ → ℕ → ℕ → List Cell → ℕ → List Cell → ℕ → ℕ → ℕ → Type 0
-Writing cs l r n out₀ at₀ out at place i = (length out ≡ length out₀) × (at₀ ≤ at) × ((ρ : ℕ → Term) → SolvedForm cs l ρ
+-- amid the n arguments of a root, from the slice out₀ and the place at₀ on: those of the nodes ks are not written yet
+abbrev pub Writing : List Cell → List ℕ → ℕ → ℕ → List Cell → ℕ → List Cell → ℕ → List ℕ → Type 0
+Writing cs l r n out₀ at₀ out at ks = (length out ≡ length out₀) × (at₀ ≤ at) × ((ρ : ℕ → Term) → SolvedForm cs l ρ
     → at₀ + length (spelt ρ (arguments cs n (r + 1))) ≤ length out₀
-    → (at + length (spelt ρ (arguments cs (n - i) place)) ≡ at₀ + length (spelt ρ (arguments cs n (r + 1))))
-    × (spliced out at (spelt ρ (arguments cs (n - i) place)) ≡ spliced out₀ at₀ (spelt ρ (arguments cs n (r + 1)))))
+    → (at + length (spelt ρ ks) ≡ at₀ + length (spelt ρ (arguments cs n (r + 1))))
+    × (spliced out at (spelt ρ ks) ≡ spliced out₀ at₀ (spelt ρ (arguments cs n (r + 1)))))
 
 -- the cells xs are written from the start, and their number is told; or there are too many, and nothing changes
 abbrev pub Written : List Cell → List Cell → Option ℕ → List Cell → Type 0

@@ -3,24 +3,24 @@ use Rattle.std.specs.Prelude.{◌≡◌, ℕ, ◌+◌, ◌<◌, ◌≤◌, Bool,
 use Rattle.terms.specs.declared.Cell.{Cell}
 use Rattle.graphs.specs.declared.Pair.{Pair}
 use Rattle.unification.specs.declared.solve.Meet.{Meet}
-use Rattle.unification.specs.declared.solve.Meet.TheVariants.{Bind, Same, Unequal, Clash, Args}
+use Rattle.unification.specs.declared.solve.Meet.TheVariants.{Bind, Same, Unequal, Args}
 use Rattle.unification.specs.declared.solve.Turn.{Turn}
-use Rattle.unification.specs.declared.solve.Turn.TheVariants.{Plain, Deep, Differ, Wrong}
+use Rattle.unification.specs.declared.solve.Turn.TheVariants.{Plain, Deep, Differ}
 use Rattle.unification.specs.declared.solve.Tally.{Tally}
 use Rattle.graphs.specs.Terms.{KTerm}
 use Rattle.graphs.specs.Graph.{Values, Stacked, Acyclic, free, atom, app}
-use Rattle.graphs.specs.Links.{up_of, weight, Down}
+use Rattle.graphs.specs.Links.{up_of, weight}
 use Rattle.graphs.specs.Meaning.{arena, kind_algebra, Going, Live}
 use Rattle.graphs.specs.Search.{StillAcyclic}
-use Rattle.graphs.specs.Cells.{node_at, graph, owes, arguments}
+use Rattle.graphs.specs.Cells.{graph, owes, arguments}
 
 -- how two roots meet, the first above the second
-abbrev pub Meets : (ℕ → ℕ → ℕ) → List Cell → ℕ → ℕ → Meet → Type 0
-Meets kind cs r q Bind = graph cs r ≡ free
-Meets kind cs r q Same = (f v : ℕ) × ((graph cs r ≡ atom f v) × (graph cs q ≡ atom f v))
-Meets kind cs r q Unequal = (f v f' v' : ℕ) × ((graph cs r ≡ atom f v) × (graph cs q ≡ atom f' v') × (kind f v ≡ kind f' v') × ¬ ((f ≡ f') × (v ≡ v')))
-Meets kind cs r q Clash = (ρ : ℕ → KTerm) → Values (kind_algebra kind) (graph cs) ρ → ρ r ≢ ρ q
-Meets kind cs r q (Args n) = (s : ℕ) × ((graph cs r ≡ app s (arguments cs n (r + 1))) × (graph cs q ≡ app s (arguments cs n (q + 1))))
+abbrev pub Meets : (ℕ → ℕ → ℕ) → List Cell → ℕ → ℕ → Option Meet → Type 0
+Meets kind cs r q (Some Bind) = graph cs r ≡ free
+Meets kind cs r q (Some Same) = (f v : ℕ) × ((graph cs r ≡ atom f v) × (graph cs q ≡ atom f v))
+Meets kind cs r q (Some Unequal) = (f v f' v' : ℕ) × ((graph cs r ≡ atom f v) × (graph cs q ≡ atom f' v') × (kind f v ≡ kind f' v') × ¬ ((f ≡ f') × (v ≡ v')))
+Meets kind cs r q None = (ρ : ℕ → KTerm) → Values (kind_algebra kind) (graph cs) ρ → ρ r ≢ ρ q
+Meets kind cs r q (Some (Args n)) = (s : ℕ) × ((graph cs r ≡ app s (arguments cs n (r + 1))) × (graph cs q ≡ app s (arguments cs n (q + 1))))
 
 -- a node that has a link, and is a variable's or a cell's
 abbrev pub Node : List Cell → ℕ → ℕ → Type 0
@@ -33,13 +33,9 @@ Within cs m (p ∷ ps) = Node cs m p.left × Node cs m p.right × Within cs m ps
 abbrev pub fuel : List Cell → ℕ → ℕ
 fuel cs n = 1 + owes cs n
 
--- What a turn needs to be safe: links that do not go up, nodes that have a link, and room for all that may be stacked.
--- The stack holds the n pairs st, and can hold m.
+-- What a turn needs to be safe: nodes that have a link, and room for all that may be stacked. The stack holds the n pairs st, and can hold m.
 pub record Ready (cs : List Cell) (l : List ℕ) (st : List Pair) (n m : ℕ) : Type 0 where
-  pub small : length cs ≤ 1568
-  pub down : Down l
   pub within : Within cs (length l) st
-  pub named : (p : ℕ) → node_at cs p < length l
   pub room : weight (owes cs) 0 l + n ≤ m
 
 -- every system that stood for equations still does, with the flag so changed
@@ -67,24 +63,17 @@ pub record Went (kind : ℕ → ℕ → ℕ) (cs : List Cell) (l : List ℕ) (st
   pub kept : Kept kind cs l st l' st' to
   pub less : weight (fuel cs) 0 l' + k < weight (fuel cs) 0 l + n
 
-abbrev pub Turned : (ℕ → ℕ → ℕ) → List Cell → List ℕ → List Pair → ℕ → List ℕ → List Pair → ℕ → ℕ → Turn → Type 0
-Turned kind cs l st n l' st' k m Plain = Went kind cs l st n l' st' k m same_flag × Orderly cs l l'
-Turned kind cs l st n l' st' k m Deep = Went kind cs l st n l' st' k m same_flag
-Turned kind cs l st n l' st' k m Differ = Went kind cs l st n l' st' k m flag_off × Orderly cs l l'
-Turned kind cs l st n l' st' k m Wrong = Down l' × Lost kind cs l st
-
-abbrev pub is_wrong : Turn → Bool
-is_wrong Plain = false
-is_wrong Deep = false
-is_wrong Differ = false
-is_wrong Wrong = true
+abbrev pub Turned : (ℕ → ℕ → ℕ) → List Cell → List ℕ → List Pair → ℕ → List ℕ → List Pair → ℕ → ℕ → Option Turn → Type 0
+Turned kind cs l st n l' st' k m (Some Plain) = Went kind cs l st n l' st' k m same_flag × Orderly cs l l'
+Turned kind cs l st n l' st' k m (Some Deep) = Went kind cs l st n l' st' k m same_flag
+Turned kind cs l st n l' st' k m (Some Differ) = Went kind cs l st n l' st' k m flag_off × Orderly cs l l'
+Turned kind cs l st n l' st' k m None = Lost kind cs l st
 
 -- what is known once a turn is counted in
 abbrev pub tallied : Tally → Turn → Tally
 tallied t Plain = t
 tallied t Deep = record { equal = t.equal; deep = true }
 tallied t Differ = record { equal = false; deep = t.deep }
-tallied t Wrong = t
 
 -- All pairs. The links stand for the equations, with the flag that tells whether constants differ; and unless a function was linked or
 -- bound, what contained nothing of itself still does not.

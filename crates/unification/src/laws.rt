@@ -3,15 +3,11 @@ ghost use Rattle.unification.specs.Outcomes.{OneOutcome};
 ghost use Rattle.unification.specs.Standing.{FollowsRules};
 
 // Equations have one outcome.
-pub fn laws_stand() -> u8
+pub fn laws_stand()
     ensures { OneOutcome }
-{
-    0
-}
+{}
 
 // The outcome that has its meaning is the one to which the rules come, in every order.
-pub fn outcome_is_the_rules() -> u8
+pub fn outcome_is_the_rules()
     ensures { FollowsRules }
-{
-    0
-}
+{}

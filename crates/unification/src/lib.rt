@@ -1,16 +1,17 @@
 // Unification of typed terms by linked nodes, on memory that is taken once, and undoable.
 //
 // A node is the place of a constant or function cell, or 1,568 + v for the variable v. Each node links to itself, and is then a root,
-// or to a lower node; the terms at linked nodes are equal. An equation is solved by linking roots and stacking the pairs of their
+// or to a lower node; the terms at linked nodes are equal. (One number for places and variables, and no enum: so one list holds all links,
+// and of two nodes one is the lower.) An equation is solved by linking roots and stacking the pairs of their
 // arguments; then a walk from the newly linked nodes looks for a function that contains itself. A trail of the linked nodes takes links back.
 #![tactic(auto)]
 
 ghost use Rattle.std.specs.Prelude.{◌≡◌};
 
+mod arena;
 pub mod bindings;
 pub mod laws;
 mod links;
-mod places;
 mod solve;
 pub mod stack;
 mod walk;
@@ -31,15 +32,15 @@ pub const SCRATCH: usize = 12864;
 // At most so many equations are solved at once.
 pub const EQUATIONS: usize = 16;
 
-// The terms at two places are to be equal.
-#[derive(Clone, Copy)]
+// The terms at two places are to be equal. (A `Pair` is of two nodes: the number of a place says nothing of a node's.)
+#[derive(Clone, Copy, Debug, Default, PartialEq, Eq)]
 pub struct Equation {
     pub left: usize,
     pub right: usize,
 }
 
 // What an equation comes to, together with those before it: it has a solution; it has none, though kinds fit; no kinds fit.
-#[derive(Clone, Copy)]
+#[derive(Clone, Copy, Debug, PartialEq, Eq)]
 pub enum Outcome {
     Solved,
     False,
@@ -47,7 +48,7 @@ pub enum Outcome {
 }
 
 // A state to roll back to: how many cells there were, and how many links.
-#[derive(Clone, Copy)]
+#[derive(Clone, Copy, Debug, Default, PartialEq, Eq)]
 pub struct Snapshot {
     cells: usize,
     trail: usize,
@@ -58,6 +59,6 @@ impl Snapshot {
     pub fn start() -> Snapshot
         ensures { (result.cells ≡ 0) × (result.trail ≡ 0) }
     {
-        Snapshot { cells: 0, trail: 0 }
+        Snapshot::default()
     }
 }

@@ -7,7 +7,7 @@ use Rattle.verdicts.specs.declared.Verdict.TheVariants.{Holds, Fails, Erroneous,
 use Rattle.verdicts.specs.declared.ending.Left.{Left}
 use Rattle.verdicts.specs.declared.ending.Left.TheVariants as left
 use Rattle.verdicts.specs.declared.ending.Ending.{Ending}
-use Rattle.verdicts.specs.declared.ending.Ending.TheVariants.{Success, Untrue, Wrong, Cut, On}
+use Rattle.verdicts.specs.declared.ending.Ending.TheVariants.{Success, Untrue, Wrong, Cut}
 use Rattle.verdicts.specs.declared.ending.Leaves.{Leaves}
 
 -- goals at the step limit are cut
@@ -15,19 +15,19 @@ abbrev pub state_of : Bool → ℕ → ℕ → Left
 state_of false step limit = left.Nothing
 state_of true step limit = cond (nat_le limit step) left.Cut left.Goals
 
--- A node after a wrong step is a wrong leaf. A node without goals is a success if its flag is true, else a false leaf;
--- a step that did not come out solved leaves the flag false.
-abbrev pub ending_of : Bool → Left → Outcome → Ending
-ending_of f left.Nothing outcome.Wrong = Wrong
-ending_of f left.Cut outcome.Wrong = Wrong
-ending_of f left.Goals outcome.Wrong = Wrong
-ending_of f left.Cut outcome.Solved = Cut
-ending_of f left.Cut outcome.False = Cut
-ending_of f left.Goals outcome.Solved = On
-ending_of f left.Goals outcome.False = On
-ending_of true left.Nothing outcome.Solved = Success
-ending_of false left.Nothing outcome.Solved = Untrue
-ending_of f left.Nothing outcome.False = Untrue
+-- A node after a wrong step is a wrong leaf; a node with goals below the limit goes on. A node without goals is a success if its flag is true, else a
+-- false leaf; a step that did not come out solved leaves the flag false.
+abbrev pub ending_of : Bool → Left → Outcome → Option Ending
+ending_of f left.Nothing outcome.Wrong = Some Wrong
+ending_of f left.Cut outcome.Wrong = Some Wrong
+ending_of f left.Goals outcome.Wrong = Some Wrong
+ending_of f left.Cut outcome.Solved = Some Cut
+ending_of f left.Cut outcome.False = Some Cut
+ending_of f left.Goals outcome.Solved = None
+ending_of f left.Goals outcome.False = None
+ending_of true left.Nothing outcome.Solved = Some Success
+ending_of false left.Nothing outcome.Solved = Some Untrue
+ending_of f left.Nothing outcome.False = Some Untrue
 
 -- only a solved step keeps the flag
 abbrev pub flag_after : Outcome → Bool → Bool
@@ -43,12 +43,13 @@ shorter (Some m) n = nat_lt n m
 abbrev pub least : Option ℕ → ℕ → Option ℕ
 least best n = cond (shorter best n) (Some n) best
 
-abbrev pub noted : Leaves → Ending → ℕ → Leaves
-noted l Success n = record { uses = least l.uses n; cut = l.cut; wrong = false }
-noted l Untrue n = record { uses = l.uses; cut = l.cut; wrong = false }
-noted l Cut n = record { uses = l.uses; cut = true; wrong = false }
-noted l Wrong n = l
-noted l On n = l
+-- a branch that goes on is no leaf
+abbrev pub noted : Leaves → Option Ending → ℕ → Leaves
+noted l (Some Success) n = record { uses = least l.uses n; cut = l.cut; wrong = false }
+noted l (Some Untrue) n = record { uses = l.uses; cut = l.cut; wrong = false }
+noted l (Some Cut) n = record { uses = l.uses; cut = true; wrong = false }
+noted l (Some Wrong) n = l
+noted l None n = l
 
 abbrev pub verdict_by : Option ℕ → Bool → Bool → Verdict
 verdict_by (Some n) c w = Holds n

@@ -3,7 +3,11 @@ ghost use Rattle.std.specs.Prelude.{◌≡◌, ◌<◌, ◌≤◌, MatchResult};
 
 use crate::Refusal;
 
-#[derive(Clone, Copy)]
+const MOST_STEPS: u8 = 32;
+
+const MOST_ALLOWED: u32 = 1000000;
+
+#[derive(Clone, Copy, Debug, PartialEq, Eq)]
 pub struct Settings {
     limit: u8,
     allowance: u32,
@@ -17,7 +21,7 @@ impl Settings {
         ensures made { MatchResult result (λ s. (s.limit ≡ limit) × (s.allowance ≡ allowance)) (λ e. e ≡ Refusal.Settings) }
         ensures refused { MatchResult result (λ _. (1 ≤ limit) × (limit ≤ 32) × (1 ≤ allowance) × (allowance ≤ 1000000)) (λ _. 1 ≤ limit → limit ≤ 32 → 1 ≤ allowance → allowance ≤ 1000000 → ⊥) }
     {
-        if limit == 0 || limit > 32 || allowance == 0 || allowance > 1000000 {
+        if !(1..=MOST_STEPS).contains(&limit) || !(1..=MOST_ALLOWED).contains(&allowance) {
             return Err(Refusal::Settings);
         }
         Ok(Settings { limit, allowance })

@@ -1,9 +1,9 @@
 use Rattle.std.proofs.Common.{◌≡◌, ◌-◌, ◌≤◌, length}
-use Rattle.cases.specs.Marks.{mark_from}
+use Rattle.cases.specs.Marks.{mark_in}
 use Rattle.cases.proofs.find_mark.Given as goal
 
-abbrev pub invariant-loop-at : goal.invariant-loop-at
-invariant-loop-at l = (l.from ≤ l.at) × (mark_from l.text l.at l.mark ≡ mark_from l.text l.from l.mark)
+abbrev pub invariant-loop-first : goal.invariant-loop-first
+invariant-loop-first l = (length l.rest ≤ length l.text) × (mark_in l.mark (length l.text - length l.rest) l.rest ≡ mark_in l.mark 0 l.text)
 
-abbrev pub decreases-loop-at : goal.decreases-loop-at
-decreases-loop-at l = length l.text - l.at
+abbrev pub decreases-loop-first : goal.decreases-loop-first
+decreases-loop-first l = length l.rest

@@ -1,30 +1,29 @@
-use Rattle.std.proofs.Common.{◌≡◌, ◌+◌, [], ◌∷◌, ◌++◌, get_or, drop, vec_items, ap, ◌∙◌, arith}
-use Rattle.std.proofs.lemmas.List.{take_rest}
+use Rattle.std.proofs.Common.{◌≡◌, [], ◌∷◌, ◌++◌, vec_items, sym, ap, ◌∙◌, append-nil, rules}
 use Rattle.cases.specs.Escapes.{escaped, escape_length, unescaped}
-use Rattle.cases.proofs.Escaping.{plain_step, escape_step, carried, ended, length_le}
+use Rattle.cases.proofs.Escaping.{plain_cons, escape_step, carried, no_first}
 use Rattle.cases.proofs.unescape.Goals as goal
 
-pub loop-at-preserved : goal.loop-at-preserved
-loop-at-preserved c =
-    let t = c.args.text.now in
-    let i = c.loop-at.at in
-    carried (vec_items c.loop-at.out) (vec_items c.push.new.self) (get_or t i 0 ∷ []) (unescaped c.args.round (drop i t)) (unescaped c.args.round (drop (i + 1) t)) _ c.in_ok-push.ensures.items
-    (plain_step c.args.round t i (omega arith) c.if-text-at-eq92.false) c.loop-at.invariant
-
-pub loop-at-preserved-then-text-at-eq92 : goal.loop-at-preserved-then-text-at-eq92
-loop-at-preserved-then-text-at-eq92 c =
-    let t = c.args.text.now in
+pub loop-first-preserved-then-first-eq92 : goal.loop-first-preserved-then-first-eq92
+loop-first-preserved-then-first-eq92 c =
+    let rest = c.loop-first.rest.now in
     let r = c.args.round in
-    let i = c.loop-at.at in
-    let n = c.in_ok-escape.field-0 in
-    let p = take_rest t i in
-    let size = c.in_ok-escape.ensures.size ∙ ap escape_length p in
-    let added = c.in_ok-escape.ensures.added ∙ ap (λ x. vec_items c.loop-at.out ++ escaped r x) p in
-    let l = length_le (drop i t) in
-    let next : c.saturating_add-at.result ≡ i + n = omega arith in
-    ap (λ x. vec_items c.escape.new.out ++ unescaped r (drop x t)) next
-    ∙ carried (vec_items c.loop-at.out) (vec_items c.escape.new.out) (escaped r (drop i t)) (unescaped r (drop i t)) (unescaped r (drop (i + n) t)) _ added
-    (escape_step r t i n c.loop-at-test.true c.if-text-at-eq92.true c.in_ok-escape.ensures.bound size) c.loop-at.invariant
+    let n = c.in_ok-n.n in
+    let e : rest ≡ c.in-Some.first.now ∷ c.in-Some.tail.now = search rules in
+    carried (vec_items c.loop-first.out) (vec_items c.escape.new.out) (escaped r rest) (unescaped r rest) (unescaped r c.after-rest.result.now) _ c.in_ok-n.ensures.added
+    (rw e (escape_step r c.in-Some.first.now n c.in-Some.tail.now c.if-first-eq92.true c.in_ok-n.ensures.bound (c.in_ok-n.ensures.size ∙ ap escape_length e))
+    ∙ ap (λ x. escaped r rest ++ unescaped r x) (sym c.after-rest.ensures))
+    c.loop-first.invariant
+
+pub loop-first-preserved : goal.loop-first-preserved
+loop-first-preserved c =
+    let r = c.args.round in
+    let tail = c.in-Some.tail.now in
+    let e : c.loop-first.rest.now ≡ c.in-Some.first.now ∷ tail = search rules in
+    carried (vec_items c.loop-first.out) (vec_items c.push.new.self) (c.in-Some.first.now ∷ []) (unescaped r c.loop-first.rest.now) (unescaped r tail) _ c.in_ok-push.ensures.items
+    (ap (unescaped r) e ∙ plain_cons r c.in-Some.first.now tail c.if-first-eq92.false) c.loop-first.invariant
 
 pub returns : goal.returns
-returns c = ended c.args.round c.args.text.now c.loop-at.at (vec_items c.loop-at.out) _ c.loop-at-test.false c.loop-at.invariant
+unfolding unescaped
+returns c =
+    let e : c.loop-first.rest.now ≡ [] = no_first c.loop-first.rest.now (search rules) in
+    sym (append-nil (vec_items c.loop-first.out)) ∙ (ap (λ x. vec_items c.loop-first.out ++ unescaped c.args.round x) (sym e) ∙ c.loop-first.invariant)

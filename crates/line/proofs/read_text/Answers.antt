@@ -5,7 +5,7 @@ use Rattle.line.specs.Reading.{too_long, no_book, no_question, question}
 use Rattle.line.proofs.read_text.Goals as goal
 
 pub returns-then-is_too_long : goal.returns-then-is_too_long
-returns-then-is_too_long c = too_long (ltb-true 8192 (length c.args.text.now) (sym c.is_too_long.ensures ∙ c.if-is_too_long.true))
+returns-then-is_too_long c = rw c.at.ensures (too_long (ltb-true 8192 (length c.args.text.now) (sym c.is_too_long.ensures ∙ c.if-is_too_long.true)))
 
 pub returns-in_err-place : goal.returns-in_err-place
 returns-in_err-place c =

@@ -19,7 +19,7 @@ use Rattle.line.proofs.reply_to.Goals as goal
 
 -- a question that was read is not refused for its cells, so its tree tells
 spelled : (text : List ℕ) (b : Book) (d : Draft) (s : SealedBook) → ReadsText text b d (Ok s) → Spelled 0 (vec_items d.cells)
-spelled text b d s (question l r f a) = asked_spelled s.names text _ d a
+spelled text b d s (question l r f a) = asked_spelled s.book.names text _ d a
 
 not_refused : (text : List ℕ) (b : Book) (d : Draft) (s : SealedBook) (n : ℕ) → n ≡ 32 → ReadsText text b d (Ok s) → judged (vec_items d.cells) 12864 512 n ≡ None
 not_refused text b d s n ne reads =

@@ -4,71 +4,55 @@ ghost use Rattle.unification.specs.State.{cells_of, links_of, trail_of};
 ghost use Rattle.verdicts.specs.Leaves.{flag_after};
 ghost use Rattle.frames.specs.Memory.{back};
 ghost use Rattle.frames.specs.Steps.{Resolved};
-ghost use Rattle.resolution.specs.State.{memory, branch, shortest};
+ghost use Rattle.resolution.specs.State.{memory, branch, shortest, Fits};
 ghost use Rattle.frames.specs.Frames.{cells_at, waiting_at, Roomy, list_at, Fetched, trodden_after};
 
 use super::Machine;
-use clauses::Source;
+use crate::search::ask::MOST_CELLS;
+use clauses::{Predicate, Source};
 use frames::{Frame, Node, Waiting, moves};
 use terms::Cell;
 use terms::signature::Signature;
 use unification::{Bindings, Outcome, Pair};
-
-const BLANK: Cell = Cell {
-    tag: 0,
-    form: 0,
-    arity: 0,
-    value: 0,
-};
 
 // Writes a clause of a predicate after the cells, its variables numbered from 32 + 32 · step on, as no other step's are: the place of its head.
 // None, and nothing changes, where the predicate has no clause of that number.
 fn fetch<P: Source>(
     source: &P,
     bindings: &mut Bindings,
-    predicate: Cell,
+    predicate: Predicate,
     clause: usize,
     step: u8,
 ) -> Option<usize>
     requires early { step < 32 }
     requires roomy { length (cells_of bindings.old) ≤ cells_at step }
-    ensures fetched { Fetched (P.Source.clauses source.now predicate.value predicate.arity) clause step (cells_of bindings.old) (cells_of bindings.new) result }
+    ensures fetched { Fetched (P.Source.clauses source.now predicate.symbol predicate.arity) clause step (cells_of bindings.old) (cells_of bindings.new) result }
     ensures links { links_of bindings.new ≡ links_of bindings.old }
     ensures trail { trail_of bindings.new ≡ trail_of bindings.old }
 {
-    let mut buffer = [BLANK; 32];
+    let mut buffer = [Cell::default(); MOST_CELLS];
     let base = moves::base_of(step);
-    let Ok(n) = source.write(
-        predicate.value,
-        predicate.arity,
-        clause,
-        base,
-        &mut buffer,
-        0,
-    ) else {
+    let Ok(n) = source.write(predicate, clause, base, &mut buffer, 0) else {
         return None;
     };
-    bindings.append(&buffer[0..n])
+    bindings.append(&buffer[..n])
 }
 
-// The same for the predicate of the goal at a place.
+// The same for the predicate of the goal of a frame, and the frame's next clause.
 pub(super) fn load<P: Source>(
     source: &P,
     bindings: &mut Bindings,
-    goal: usize,
-    clause: usize,
-    step: u8,
+    goal: Waiting,
+    frame: Frame,
 ) -> Option<usize>
-    requires early { step < 32 }
-    requires roomy { length (cells_of bindings.old) ≤ cells_at step }
-    ensures fetched { Fetched (list_at (P.Source.clauses source.now) (cells_of bindings.old) goal) clause step (cells_of bindings.old) (cells_of bindings.new) result }
+    requires early { frame.node.step < 32 }
+    requires roomy { length (cells_of bindings.old) ≤ cells_at frame.node.step }
+    ensures fetched { Fetched (list_at (P.Source.clauses source.now) (cells_of bindings.old) goal.goal) frame.clause frame.node.step (cells_of bindings.old) (cells_of bindings.new) result }
     ensures links { links_of bindings.new ≡ links_of bindings.old }
     ensures trail { trail_of bindings.new ≡ trail_of bindings.old }
 {
-    let Some(predicate) = bindings.cell(goal) else {
-        return None;
-    };
-    fetch(source, bindings, predicate, clause, step)
+    let predicate = Predicate::of(bindings.cell(goal.goal)?);
+    fetch(source, bindings, predicate, frame.clause, frame.node.step)
 }
 
 impl Machine {
@@ -104,12 +88,11 @@ impl Machine {
         ensures dropped { result.1 ≢ Outcome.Solved → result.0.goals ≡ goal.rest }
         ensures resolved { Resolved (K.Signature.kind kinds.now) frame goal head (memory self.old) (memory self.new) result.0 result.1 }
         ensures shortest { shortest self.new ≡ shortest self.old }
-        ensures trodden { self.new.trodden.items ≡ trodden_after head self.old.trodden.items frame.node.step frame.clause }
-        ensures cells { length (cells_of self.new.bindings) ≤ cells_at (frame.node.step + 1) }
-        ensures waiting { vec_len self.new.waiting ≤ waiting_at (frame.node.step + 1) }
+        ensures trodden { branch self.new ≡ trodden_after head (branch self.old) frame.node.step frame.clause }
+        ensures fits { Fits self.new (frame.node.step + 1) }
     {
         let Some(head) = head else {
-            return (moves::after_drop(frame, goal), Outcome::False);
+            return (frame.after_drop(goal), Outcome::False);
         };
         let Some(outcome) = self.bindings.unify(kinds, goal.goal, head, pairs) else {
             unreachable()
@@ -117,19 +100,17 @@ impl Machine {
         self.trodden[frame.node.step as usize] = frame.clause as u16;
         match outcome {
             Outcome::Solved => {
-                let goals = self.put_body(head, goal.rest);
-                (
-                    Node {
-                        flag: frame.node.flag,
-                        goals,
-                        step: frame.node.step + 1,
-                    },
-                    outcome,
-                )
+                let body = self.bindings.end_of(head);
+                let node = Node {
+                    goals: self.list_goals(body, goal.rest),
+                    step: frame.node.step + 1,
+                    ..frame.node
+                };
+                (node, outcome)
             }
-            _ => {
+            Outcome::False | Outcome::Wrong => {
                 self.bindings.roll_back(frame.bindings);
-                (moves::after_drop(frame, goal), outcome)
+                (frame.after_drop(goal), outcome)
             }
         }
     }

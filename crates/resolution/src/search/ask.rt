@@ -1,51 +1,69 @@
 // The question that a search is asked.
-ghost use Rattle.std.specs.Prelude.{◌≡◌, ℕ, ◌+◌, ◌<◌, ◌≤◌, List, [], length, take, drop, IfOk};
+ghost use Rattle.std.specs.Prelude.{◌≡◌, ℕ, ◌+◌, ◌<◌, ◌≤◌, List, [], length, take, drop, IfOk, Some, None, MatchResult};
 ghost use Rattle.clauses.specs.Clauses.{OfPredicates};
 ghost use Rattle.typing.specs.Terms.{Eqs};
 ghost use Rattle.graphs.specs.Links.{roots};
 ghost use Rattle.unification.specs.Standing.{Standing};
 ghost use Rattle.resolution.specs.State.{memory, standing_cells, standing_links, standing_trail};
-ghost use Rattle.frames.specs.Asked.{judged, PathOf, Bounded, Asked};
+ghost use Rattle.frames.specs.Asked.{judged, judged_scratch, judged_goals, PathOf, Bounded, Asked};
 
 use super::Search;
-use crate::machine::Machine;
+use crate::machine::{MOST_USES, Machine, Task};
 use clauses::Source;
 use frames::Frame;
 use std::alloc::{AllocError, Global};
 use terms::signature::Signature;
 use terms::{Cell, check};
-use unification::Pair;
+use unification::{Pair, SCRATCH};
 use verdicts::settings::Settings;
-use verdicts::{Answer, Refusal, Verdict, ending};
+use verdicts::{Answer, Refusal, Verdict};
 
 // The scratch that a caller lends, and the places of a path.
-pub const PAIRS: usize = 12864;
+pub const PAIRS: usize = SCRATCH;
 
 pub const FRAMES: usize = 512;
 
-pub const PATH: usize = 32;
+pub const PATH: usize = MOST_USES;
 
-// The first of the faults of a call, in the order in which they are judged.
-fn judge(question: &[Cell], pairs: usize, frames: usize, path: usize) -> Option<Refusal>
-    ensures { result ≡ judged question.now pairs frames path }
+// A clause or a question has at most so many cells, and a question so many goals.
+pub const MOST_CELLS: usize = 32;
+
+const MOST_GOALS: usize = 8;
+
+// Refuses too little scratch.
+pub fn scratch(pairs: &[Pair], frames: &[Frame]) -> Result<(), Refusal>
+    ensures { result ≡ judged_scratch (length pairs.now) (length frames.now) }
 {
-    if pairs < PAIRS || frames < FRAMES {
-        return Some(Refusal::ScratchShort);
+    if pairs.len() < PAIRS || frames.len() < FRAMES {
+        return Err(Refusal::ScratchShort);
     }
-    let Some(goals) = check::goal_count(question) else {
-        return Some(Refusal::NoGoalList);
-    };
-    if !check::low_variables(question) {
-        return Some(Refusal::NoGoalList);
+    Ok(())
+}
+
+// Refuses cells that are no question: no goal list, a variable above 31, too many cells or goals.
+pub fn question(cells: &[Cell]) -> Result<(), Refusal>
+    ensures { result ≡ judged_goals cells.now }
+{
+    let goals = check::goal_count(cells).ok_or(Refusal::NoGoalList)?;
+    if !check::low_variables(cells) {
+        return Err(Refusal::NoGoalList);
     }
-    if question.len() > 32 || goals > 8 {
-        return Some(Refusal::TooLarge);
+    if cells.len() > MOST_CELLS || goals > MOST_GOALS {
+        return Err(Refusal::TooLarge);
     }
-    if path < PATH {
-        Some(Refusal::PathShort)
-    } else {
-        None
+    Ok(())
+}
+
+// The first of the refusals of a call, in the order in which they are judged.
+fn judge(cells: &[Cell], pairs: &[Pair], frames: &[Frame], path: &[u16]) -> Result<(), Refusal>
+    ensures { MatchResult result (λ _. judged cells.now (length pairs.now) (length frames.now) (length path.now) ≡ None) (λ e. judged cells.now (length pairs.now) (length frames.now) (length path.now) ≡ Some e) }
+{
+    scratch(pairs, frames)?;
+    question(cells)?;
+    if path.len() < PATH {
+        return Err(Refusal::PathShort);
     }
+    Ok(())
 }
 
 impl Search {
@@ -75,15 +93,16 @@ impl Search {
         ensures bounded { Bounded (judged question.now (length pairs.old) (length frames.old) (length path.old)) settings.allowance result }
         ensures path { PathOf result path.old path.new }
     {
-        if let Some(refusal) = judge(question, pairs.len(), frames.len(), path.len()) {
-            return Err(refusal);
-        }
-        let tally = self
-            .machine
-            .whole_tree(source, kinds, settings, question, pairs, frames)?;
-        let verdict = ending::verdict_of(tally.leaves);
+        judge(question, pairs, frames, path)?;
+        let task = Task {
+            source,
+            kinds,
+            settings,
+        };
+        let tally = self.machine.whole_tree(&task, question, pairs, frames)?;
+        let verdict = tally.leaves.verdict();
         if let Verdict::Holds(uses) = verdict {
-            write_path(self.machine.best.as_slice(), uses as usize, path);
+            write_path(&self.machine.best, uses as usize, path);
         }
         Ok(Answer {
             verdict,
@@ -92,12 +111,12 @@ impl Search {
     }
 }
 
-// The first n places of the path.
+// Copies the first n places of the path.
 fn write_path(best: &[u16], n: usize, path: &mut [u16])
     requires best { n ≤ length best.now }
     requires path { n ≤ length path.old }
     ensures written { take n path.new ≡ take n best.now }
     ensures kept { drop n path.new ≡ drop n path.old }
 {
-    path[0..n].copy_from_slice(&best[0..n]);
+    path[..n].copy_from_slice(&best[..n]);
 }

@@ -12,7 +12,7 @@ use terms::signature::Signature;
 use unification::{Equation, Outcome, Pair, Snapshot};
 
 // The cells of sixteen equations of 32 cells each.
-const MOST_CELLS: usize = 512;
+const MOST_STANDING: usize = 512;
 
 impl Search {
     // Takes all equations back, and their cells.
@@ -33,7 +33,7 @@ impl Search {
         ensures trail { standing_trail self.new ≡ standing_trail self.old }
     {
         let at = self.machine.bindings.len();
-        if cells.len() > MOST_CELLS - at {
+        if cells.len() > MOST_STANDING - at {
             return None;
         }
         self.machine.bindings.append(cells)

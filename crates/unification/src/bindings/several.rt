@@ -1,31 +1,28 @@
 // Several equations at once.
 ghost use Rattle.std.specs.Prelude.{◌≡◌, ◌+◌, ◌≤◌, ◌&&◌, length, is_some, IfSome, MatchOption, nat_le};
-ghost use Rattle.graphs.specs.Links.{Logged};
 ghost use Rattle.unification.specs.Held.{held, count, room};
 ghost use Rattle.unification.specs.Outcomes.{Settles};
 ghost use Rattle.unification.specs.Several.{stacked, UnifiedAll};
-ghost use Rattle.unification.specs.State.{cells_of, links_of, trail_of};
+ghost use Rattle.unification.specs.State.{cells_in, cells_of, links_of, trail_of};
 
-use super::{Bindings, calls};
+use super::Bindings;
+use crate::arena::Arena;
 use crate::stack::Stack;
-use crate::{EQUATIONS, Equation, Outcome, SCRATCH, places};
+use crate::{EQUATIONS, Equation, Outcome, SCRATCH};
 use graphs::Pair;
-use terms::Cell;
 use terms::signature::Signature;
 
 // Stacks the nodes of each equation.
-fn push_all(cells: &[Cell], pairs: &mut Stack<'_, Pair>, equations: &[Equation])
+fn push_all(arena: &Arena, pairs: &mut Stack<'_, Pair>, equations: &[Equation])
     requires { count pairs.old + length equations.now ≤ room pairs.old }
-    ensures held { held pairs.new ≡ stacked cells.now equations.now (held pairs.old) }
+    ensures held { held pairs.new ≡ stacked (cells_in arena.now) equations.now (held pairs.old) }
     ensures count { count pairs.new ≡ count pairs.old + length equations.now }
     ensures room { room pairs.new ≡ room pairs.old }
 {
-    let n = equations.len();
-    for i in 0..n {
-        let e = equations[i];
+    for e in equations {
         pairs.put(Pair {
-            left: places::node(cells, e.left),
-            right: places::node(cells, e.right),
+            left: arena.node(e.left),
+            right: arena.node(e.right),
         });
     }
 }
@@ -47,39 +44,8 @@ impl Bindings {
         if equations.len() > EQUATIONS || scratch.len() < SCRATCH {
             return None;
         }
-        let before = self.snapshot().trail;
-        let outcome = self.equate_all(signature, equations, scratch);
-        match outcome {
-            Outcome::Solved => {}
-            Outcome::False => self.take_back(before),
-            Outcome::Wrong => self.take_back(before),
-        }
-        Some(outcome)
-    }
-
-    // The same, with the links left as the solver made them.
-    fn equate_all<S: Signature>(
-        &mut self,
-        signature: &S,
-        equations: &[Equation],
-        scratch: &mut [Pair],
-    ) -> Outcome
-        requires few { length equations.now ≤ 16 }
-        requires long { 12864 ≤ length scratch.old }
-        ensures cells { cells_of self.new ≡ cells_of self.old }
-        ensures logged { Logged (links_of self.old) (trail_of self.old) (links_of self.new) (trail_of self.new) }
-        ensures means { UnifiedAll (S.Signature.kind signature.now) (cells_of self.old) (links_of self.old) equations.now (links_of self.new) result }
-    {
-        let cells = self.cells.as_slice();
         let mut pairs = Stack::new(scratch);
-        push_all(cells, &mut pairs, equations);
-        calls::settle(
-            signature,
-            cells,
-            self.links.as_mut_slice(),
-            &mut self.trail,
-            self.order.as_mut_slice(),
-            &mut pairs,
-        )
+        push_all(&self.arena, &mut pairs, equations);
+        Some(self.settle(signature, &mut pairs))
     }
 }

@@ -1,4 +1,4 @@
-ghost use Rattle.std.specs.Prelude.{◌≡◌, ℕ, ◌+◌, ◌-◌, ◌<◌, ◌≤◌, Bool, true, false, T, List, [], ◌∷◌, ◌++◌, length, if◌then◌else◌, MatchOption, ◌==◌, nat_lt};
+ghost use Rattle.std.specs.Prelude.{◌≡◌, ℕ, ◌+◌, ◌-◌, ◌<◌, ◌≤◌, Bool, true, false, T, List, [], ◌∷◌, ◌++◌, length, if◌then◌else◌, is_ok, MatchOption, MatchResult, ◌==◌, nat_lt};
 ghost use Rattle.unification.specs.Held.{held, room, count};
 
 use super::Stack;
@@ -12,20 +12,18 @@ impl<'a, R: Copy> Stack<'a, R> {
         Stack { items, len: 0 }
     }
 
-    // One record more; false where the slice is full, and then nothing changes.
-    pub fn push(&mut self, x: R) -> bool
-        ensures told { result ≡ nat_lt (count self.old) (room self.old) }
-        ensures held { held self.new ≡ (if result then x ∷ held self.old else held self.old) }
-        ensures count { count self.new ≡ (if result then count self.old + 1 else count self.old) }
+    // One record more, or the record back where the slice is full, and then nothing changes.
+    pub fn push(&mut self, x: R) -> Result<(), R>
+        ensures told { is_ok result ≡ nat_lt (count self.old) (room self.old) }
+        ensures held { MatchResult result (λ _. held self.new ≡ x ∷ held self.old) (λ back. (back ≡ x) × (held self.new ≡ held self.old)) }
+        ensures count { count self.new ≡ (if is_ok result then count self.old + 1 else count self.old) }
         ensures room { room self.new ≡ room self.old }
     {
-        if self.len < self.items.len() {
-            self.items[self.len] = x;
-            self.len += 1;
-            true
-        } else {
-            false
+        if self.len == self.items.len() {
+            return Err(x);
         }
+        self.put(x);
+        Ok(())
     }
 
     // One record more, where there is room.
@@ -44,21 +42,8 @@ impl<'a, R: Copy> Stack<'a, R> {
         ensures count { MatchOption result ((count self.old ≡ 0) × (count self.new ≡ 0)) (λ x. count self.old ≡ count self.new + 1) }
         ensures room { room self.new ≡ room self.old }
     {
-        if self.is_empty() {
-            return None;
-        }
-        Some(self.take_newest())
-    }
-
-    // The newest record, where there is one.
-    fn take_newest(&mut self) -> R
-        requires { 0 < count self.old }
-        ensures held { held self.old ≡ result ∷ held self.new }
-        ensures count { count self.old ≡ count self.new + 1 }
-        ensures room { room self.new ≡ room self.old }
-    {
-        self.len -= 1;
-        self.items[self.len]
+        self.len = self.len.checked_sub(1)?;
+        Some(self.items[self.len])
     }
 
     // Whether nothing is on the stack.
@@ -72,11 +57,7 @@ impl<'a, R: Copy> Stack<'a, R> {
     pub fn top(&self) -> Option<R>
         ensures { MatchOption result (held self.now ≡ []) (λ x. (rest : List R) × (held self.now ≡ x ∷ rest)) }
     {
-        if self.len == 0 {
-            return None;
-        }
-        let items: &[R] = &*self.items;
-        Some(items[self.len - 1])
+        self.items[..self.len].last().copied()
     }
 
     pub fn len(&self) -> usize

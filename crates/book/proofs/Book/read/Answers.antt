@@ -1,4 +1,4 @@
-use Rattle.std.proofs.Common.{◌≡◌, vec_items, sym, refl, ◌∙◌, subst, arith}
+use Rattle.std.proofs.Common.{◌≡◌, vec_items, sym, refl, ◌∙◌, subst}
 use Rattle.std.proofs.lemmas.Result.{err_from_is_err_and}
 use Rattle.draft.specs.Sketch.{sketch_of}
 use Rattle.draft.specs.Numbering.{known}
@@ -13,10 +13,7 @@ use Rattle.book.proofs.Book.read.Goals as goal
 pub admit-requires : goal.admit-requires
 admit-requires c =
     let e = c.in_ok-end.ensures in
-    record {
-      some = let a = c.number.new.self.cells.ok.0 in let b = c.clause.new.self.cells.ok.0 in omega (arith, e.some, c.number.ensures.len);
-      spelled = subst (Spelled 1) (sym c.number.ensures.cells) (spelled_from 1 c.args.text.now c.args.self.now.names (sketch_of c.clause.new.self) e.spelled);
-    }
+    subst (Spelled 1) (sym c.number.ensures.cells) (spelled_from 1 c.args.text.now c.args.self.now.names (sketch_of c.clause.new.self) e.spelled)
 
 pub returns-in_err-end : goal.returns-in_err-end
 returns-in_err-end c =

@@ -1,4 +1,4 @@
-use Rattle.std.proofs.Common.{sym}
+use Rattle.std.proofs.Common.{sym, subst, rules}
 use Rattle.std.proofs.lemmas.Result.{err_from_is_err_and}
 use Rattle.draft.specs.Sketch.{sketch_of, GoalsRefused}
 use Rattle.draft.specs.Sketch.GoalsRefused.{unread, no_rest, more_text, too_large}
@@ -16,12 +16,14 @@ returns-in_err-last c =
     cases_err _ (GoalsRefused c.args.text.now c.args.query) c.from_residual-in_err-last.result p.0 _ p.1 p.2
     (no_rest c.in_ok-end.end (sketch_of c.read.new.self) (reads_state _ _ _ _ _ _ _ c.begin.ensures c.in_ok-end.ensures.reads) (sym c.in_err-last.ensures.value))
 
-pub returns-in_default : goal.returns-in_default
-returns-in_default c =
-    more_text c.in_ok-end.end (sketch_of c.read.new.self) c.in_ok-last.last (reads_state _ _ _ _ _ _ _ c.begin.ensures c.in_ok-end.ensures.reads)
-    (sym c.in_ok-last.ensures.value) c.in_default.not-End
+pub returns-then-ne : goal.returns-then-ne
+returns-then-ne c =
+    subst (GoalsRefused c.args.text.now c.args.query) (sym c.at.ensures)
+    (more_text c.in_ok-end.end (sketch_of c.read.new.self) c.in_ok-last.last (reads_state _ _ _ _ _ _ _ c.begin.ensures c.in_ok-end.ensures.reads)
+    (sym c.in_ok-last.ensures.value) (λ h. search rules))
 
 pub returns-then-self : goal.returns-then-self
 returns-then-self c =
-    too_large c.in_ok-end.end (sketch_of c.read.new.self) c.in_ok-last.last (reads_state _ _ _ _ _ _ _ c.begin.ensures c.in_ok-end.ensures.reads)
-    (sym c.in_ok-last.ensures.value) c.in-End.is c.if-self.true
+    subst (GoalsRefused c.args.text.now c.args.query) (sym c.at-then-self.ensures)
+    (too_large c.in_ok-end.end (sketch_of c.read.new.self) c.in_ok-last.last (reads_state _ _ _ _ _ _ _ c.begin.ensures c.in_ok-end.ensures.reads)
+    (sym c.in_ok-last.ensures.value) (search rules) c.if-self.true)

@@ -30,14 +30,14 @@ returns-in_err-due c =
       bounds = made_err _ c.from_residual-in_err-due.result p.0 p.1;
     }
 
-pub returns-in-Nothing : goal.returns-in-Nothing
-returns-in-Nothing c =
+pub returns-then-eq : goal.returns-then-eq
+returns-then-eq c =
     let t = c.in_ok-token.ensures.value in
     let q = c.in_ok-due.ensures.taken in
     record {
       reads =
           reads_from c.args.text.now c.args.form c.args.first (sketch_of c.args.self.now) c.min-place.result _ _ c.min-place.ensures
-          (c.loop-token.invariant.2 _ (last c.in_ok-token.token (sym t) (q ∙ ap (λ d. Ok (d, sketch_of c.take.new.self)) c.in-Nothing.is) refl));
+          (c.loop-token.invariant.2 _ (last c.in_ok-token.token (sym t) (q ∙ ap (λ d. Ok (d, sketch_of c.take.new.self)) (search rules)) refl));
       bounds = search rules;
     }
 
@@ -45,4 +45,4 @@ pub loop-token-preserved : goal.loop-token-preserved
 loop-token-preserved c =
     let t = c.in_ok-token.ensures.value in
     let q = c.in_ok-due.ensures.taken in
-    (search rules, search rules, λ r x. c.loop-token.invariant.2 r (more c.in_ok-token.token (sym t) q c.in_default.not-Nothing x))
+    (search rules, search rules, λ r x. c.loop-token.invariant.2 r (more c.in_ok-token.token (sym t) q (λ h. search rules) x))

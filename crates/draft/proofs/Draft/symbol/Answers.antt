@@ -4,22 +4,18 @@ use Rattle.names.specs.Spans.{words_in, word_at}
 use Rattle.names.specs.Words.{names_of}
 use Rattle.draft.specs.Numbering.{known}
 use Rattle.names.proofs.Tables.{length_words, words_push}
-use Rattle.names.proofs.Finding.{place_same, word_known, word_new}
+use Rattle.names.proofs.Finding.{found_same, found_some, found_none, word_known, word_new}
 use Rattle.draft.proofs.Draft.symbol.Goals as goal
 
-pub returns-then-n-len : goal.returns-then-n-len
-returns-then-n-len c =
+pub returns-in-Some : goal.returns-in-Some
+returns-in-Some c =
     let names = c.args.names.now in
     let self = c.args.self.now in
     let text = c.args.text.now in
     let w = word_at text c.args.span in
-    let e = c.place-n.ensures.value ∙ place_same _ w text text (names_of names) (names_of names) _ (vec_items self.fresh) c.word.ensures refl c.as_slice.ensures.value refl in
-    let a = length-append (names_of names) (words_in text (vec_items self.fresh)) in
-    let l = length_words (vec_items names.bytes) (vec_items names.spans) in
-    let m = length_words text (vec_items self.fresh) in
-    let k = names.spans.ok.0 in
-    let j = self.fresh.ok.0 in
-    record { value = e; words = sym (word_known w (known names text self) (omega arith)); kept = refl; cells = refl; fresh = search rules }
+    let same = found_same _ w text text (names_of names) (names_of names) _ (vec_items self.fresh) c.word.ensures refl c.as_slice.ensures.value refl in
+    let p = found_some w (known names text self) c.in-Some.n (sym same ∙ (sym c.place.ensures.value ∙ c.in-Some.is)) in
+    record { value = sym p.0; words = sym (word_known w (known names text self) (omega arith)); kept = refl; cells = refl; fresh = search rules }
 
 pub returns : goal.returns
 returns c =
@@ -27,19 +23,17 @@ returns c =
     let self = c.args.self.now in
     let text = c.args.text.now in
     let w = word_at text c.args.span in
-    let e = c.place-n.ensures.value ∙ place_same _ w text text (names_of names) (names_of names) _ (vec_items self.fresh) c.word.ensures refl c.as_slice.ensures.value refl in
+    let same = found_same _ w text text (names_of names) (names_of names) _ (vec_items self.fresh) c.word.ensures refl c.as_slice.ensures.value refl in
+    let p = found_none w (known names text self) (sym same ∙ (sym c.place.ensures.value ∙ search rules)) in
     let a = length-append (names_of names) (words_in text (vec_items self.fresh)) in
-    let l = length_words (vec_items names.bytes) (vec_items names.spans) in
     let m = length_words text (vec_items self.fresh) in
-    let k = names.spans.ok.0 in
     let j = self.fresh.ok.0 in
-    let b = c.as_slice.ensures.len in
     record {
-      value = e;
+      value = omega arith;
       words =
           ap (λ ss. names_of names ++ words_in text ss) c.push_reserved.ensures.items
           ∙ (ap (λ ws. names_of names ++ ws) (words_push text (vec_items self.fresh) c.args.span)
-          ∙ (sym (append_assoc (names_of names) (words_in text (vec_items self.fresh)) (w ∷ [])) ∙ sym (word_new w (known names text self) (omega arith))));
+          ∙ (sym (append_assoc (names_of names) (words_in text (vec_items self.fresh)) (w ∷ [])) ∙ sym (word_new w (known names text self) p)));
       kept = refl;
       cells = refl;
       fresh = search rules;

@@ -1,26 +1,15 @@
-use Rattle.std.proofs.Common.{sym, ◌∙◌, arith, rules}
-use Rattle.lexis.proofs.Ends.{end_none, end_stop, end_more}
+use Rattle.std.proofs.Common.{rules, ◌+◌, ◌-◌, not, length, drop, ap, ◌∙◌, arith}
+use Rattle.std.specs.Option.{unwrap_or}
+use Rattle.std.proofs.lemmas.List.{take_all, length-drop}
+use Rattle.std.proofs.lemmas.Iterator.{YieldsList-from_slice}
+use Rattle.std.proofs.lemmas.Iterator.Search.{position_from_yields_List}
+use Rattle.lexis.proofs.Ends.{end_found}
 use Rattle.lexis.proofs.token.run_end.Goals as goal
 
-pub returns-then-not-goes_on : goal.returns-then-not-goes_on
-returns-then-not-goes_on c =
-    record {
-      end =
-          sym (end_stop c.args.run c.args.text.now c.loop-end.end _ (search rules) (sym c.goes_on.ensures ∙ c.if-not-goes_on.true))
-          ∙ c.loop-end.invariant.0;
-      bounds = (c.loop-end.invariant.1, c.loop-end.invariant.2);
-    }
-
-pub loop-end-preserved : goal.loop-end-preserved
-loop-end-preserved c = (
-  sym (end_more c.args.run c.args.text.now c.loop-end.end _ (search rules) (sym c.goes_on.ensures ∙ c.if-not-goes_on.false)) ∙ c.loop-end.invariant.0,
-  omega arith,
-  λ h. omega arith,
-)
-
-pub returns : goal.returns
-returns c =
-    record {
-      end = sym (end_none c.args.run c.args.text.now c.loop-end.end (search rules)) ∙ c.loop-end.invariant.0;
-      bounds = (c.loop-end.invariant.1, c.loop-end.invariant.2);
-    }
+pub returns-clause-end : goal.returns-clause-end
+returns-clause-end g c = λ test t.
+    let whole = take_all (length c.args.text.now - c.args.at) (drop c.args.at c.args.text.now) (omega (arith, length-drop c.args.at c.args.text.now)) in
+    let from = YieldsList-from_slice (drop c.args.at c.args.text.now) (c.iter.ensures.rest ∙ whole) in
+    let found = position_from_yields_List (λ b. not (test b)) _ _ c.position.result c.position.ensures.ran from (λ x b q k. search rules) in
+    ap (λ n. c.args.at + n) (c.unwrap_or.ensures ∙ ap (λ xs. unwrap_or c.position.result (length xs)) whole)
+    ∙ end_found test c.args.text.now c.args.at c.position.result found

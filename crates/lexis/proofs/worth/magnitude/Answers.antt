@@ -1,12 +1,10 @@
-use Rattle.std.proofs.Common.{arith, rules}
-use Rattle.lexis.proofs.Words.{decimal_none, decimal_more, decimal_all}
+use Rattle.std.proofs.Common.{◌+◌, ◌-◌, ◌*◌, min, ◌∙◌, rules}
+use Rattle.std.proofs.lemmas.Iterator.{YieldsList-from_slice}
+use Rattle.std.proofs.lemmas.Iterator.Consumers.{fold_from_yields_List}
+use Rattle.lexis.proofs.Words.{decimal_held}
 use Rattle.lexis.proofs.worth.magnitude.Goals as goal
 
-pub loop-b-init : goal.loop-b-init
-loop-b-init c = omega (arith, decimal_none)
-
-pub loop-b-preserved : goal.loop-b-preserved
-loop-b-preserved c = let m = decimal_more c.args.digits.now c.loop-b.b-index 0 (search rules) in omega (arith, m)
-
 pub returns : goal.returns
-returns c = let m = decimal_all c.args.digits.now c.loop-b.b-index (search rules) in omega arith
+returns c =
+    fold_from_yields_List _ (λ n b. min (min (n * 10) 4294967295 + (b - 48)) 4294967295) 0 c.fold.result c.fold.ensures.ran (YieldsList-from_slice c.args.digits.now (search rules)) (λ n x m q k. search rules)
+    ∙ decimal_held c.args.digits.now

@@ -1,5 +1,5 @@
 use Rattle.std.proofs.Common.{◌≤◌, [], ◌∷◌, vec_items, vec_len, arith, rules}
-use Rattle.names.specs.declared.Span.{Span}
+use Rattle.lexis.specs.declared.token.Span.{Span}
 use Rattle.names.proofs.Laws.{each_joined, each_one}
 use Rattle.names.proofs.Tables.{name_added, name_bytes}
 use Rattle.names.proofs.Names.add.Goals as goal

@@ -1,21 +1,12 @@
-use Rattle.std.proofs.Common.{sym, ap, ◌∙◌, arith, rules}
+use Rattle.std.proofs.Common.{◌∙◌, rules}
 use Rattle.std.specs.Str.{bytes_eq}
-use Rattle.names.proofs.Finding.{place_stop, place_more, place_end}
+use Rattle.std.proofs.lemmas.Iterator.{YieldsList-from_slice}
+use Rattle.std.proofs.lemmas.Iterator.Search.{position_from_yields_List}
+use Rattle.names.specs.Spans.{word_at}
+use Rattle.names.proofs.Finding.{found_at_span}
 use Rattle.names.proofs.words.place_in.Goals as goal
 
-pub returns-then-same : goal.returns-then-same
-returns-then-same c =
-    let e = ap (λ w. bytes_eq w c.args.sought.now) (sym c.word.ensures) ∙ (sym c.same.ensures.value ∙ c.if-same.true) in
-    let p = place_stop c.args.sought.now c.args.bytes.now c.args.spans.now c.loop-i.i (record { start = 0; end = 0 }) (omega arith) e in
-    record { value = omega arith; bound = search rules }
-
-pub loop-i-preserved : goal.loop-i-preserved
-loop-i-preserved c =
-    let e = ap (λ w. bytes_eq w c.args.sought.now) (sym c.word.ensures) ∙ (sym c.same.ensures.value ∙ c.if-same.false) in
-    let p = place_more c.args.sought.now c.args.bytes.now c.args.spans.now c.loop-i.i (record { start = 0; end = 0 }) (omega arith) e in
-    omega arith
-
-pub returns : goal.returns
-returns c =
-    let p = place_end c.args.sought.now c.args.bytes.now c.args.spans.now c.loop-i.i (omega arith) in
-    record { value = omega arith; bound = search rules }
+pub returns-clause-value : goal.returns-clause-value
+returns-clause-value c =
+    position_from_yields_List (λ s. bytes_eq (word_at c.args.bytes.now s) c.args.sought.now) _ _ c.position.result c.position.ensures.ran (YieldsList-from_slice c.args.spans.now (search rules)) (λ x b q k. search rules)
+    ∙ found_at_span c.args.sought.now c.args.bytes.now c.args.spans.now

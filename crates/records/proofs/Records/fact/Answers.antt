@@ -1,15 +1,11 @@
-use Rattle.std.proofs.Common.{length, ap, arith}
-use Rattle.std.proofs.lemmas.List.{get_or_default}
-use Rattle.records.specs.Sourcing.{clauses_count, fact_some}
+use Rattle.std.proofs.Common.{◌≡◌, slice_get, rules}
+use Rattle.std.proofs.lemmas.Option.{gets}
+use Rattle.records.specs.Meaning.{list_of}
+use Rattle.records.specs.Sourcing.{fact_found}
 use Rattle.records.proofs.Records.fact.Goals as goal
 
-pub returns-then-number-facts : goal.returns-then-number-facts
-returns-then-number-facts c =
-    fact_some c.args.self.now c.args.symbol c.args.arity c.args.number c.listing-facts.result.now _ c.listing-facts.ensures c.if-number-facts.true
-    (get_or_default c.listing-facts.result.now c.args.number _ _ c.if-number-facts.true)
-
-pub returns-else-number-facts : goal.returns-else-number-facts
-returns-else-number-facts c =
-    let e = clauses_count c.args.self.now c.args.symbol c.args.arity in
-    let l = ap length c.listing-facts.ensures in
-    omega arith
+pub returns : goal.returns
+returns c =
+    let p = c.args.predicate in
+    let found : c.copied.result ≡ slice_get (list_of c.args.self.now p.symbol p.arity) c.args.number = search (rules, gets) in
+    fact_found c.args.self.now p.symbol p.arity c.args.number c.copied.result found

@@ -6,7 +6,7 @@ use Rattle.store.proofs.Histories.{history_written, ran_all, same_fixed}
 use Rattle.store.proofs.replay.run.Goals as goal
 
 pub loop-i-init : goal.loop-i-init
-loop-i-init g c = ((refl, refl, refl, refl), none, refl)
+loop-i-init g c = (refl, none, refl)
 
 pub loop-i-preserved : goal.loop-i-preserved
 loop-i-preserved g c =
@@ -17,12 +17,12 @@ loop-i-preserved g c =
     let t = c.step.ensures.same in
     let p : length c.loop-i.pairs ≡ length c.args.pairs.now = omega arith in
     let q : length c.loop-i.frames ≡ length c.args.frames.now = omega arith in
-    let a = ap g.P.Source.clauses v.2 in
-    let b = ap g.G.Signature.kind v.3 in
-    let d = ap (λ s. s.limit) v.0 in
-    let e = ap (λ s. s.allowance) v.0 in
-    let n = v.1 in (
-      (t.0 ∙ v.0, t.1 ∙ v.1, t.2 ∙ v.2, t.3 ∙ v.3),
+    let a = ap (λ b. g.P.Source.clauses b.source) v in
+    let b = ap (λ b. g.G.Signature.kind b.signature) v in
+    let d = ap (λ b. b.settings.limit) v in
+    let e = ap (λ b. b.settings.allowance) v in
+    let n = ap (λ b. b.number) v in (
+      t ∙ v,
       history_written _ _ c.args.calls.now c.loop-i.replies i _ c.step.result (same_fixed a b d e n p q) l k c.loop-i.invariant.1 c.step.ensures.told,
       drop-set-lt (i + 1) c.loop-i.replies i c.step.result (omega arith)
           ∙ (sym (drop-drop 1 i c.loop-i.replies) ∙ (ap (λ (bs : List Reply). drop 1 bs) c.loop-i.invariant.2 ∙ drop-drop 1 i c.args.replies.now)),

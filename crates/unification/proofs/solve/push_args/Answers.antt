@@ -3,6 +3,7 @@ use Rattle.terms.specs.declared.Cell.{Cell}
 use Rattle.graphs.specs.declared.Pair.{Pair}
 use Rattle.graphs.specs.Graph.{onto}
 use Rattle.graphs.specs.Cells.{arguments, after}
+use Rattle.unification.specs.State.{cells_in}
 use Rattle.unification.specs.Held.{held}
 use Rattle.graphs.proofs.CellLaws.{arguments_more}
 use Rattle.unification.proofs.solve.push_args.Goals as goal
@@ -13,11 +14,11 @@ anywhere cs k x y x' y' st e = rw e refl
 
 pub loop-i-preserved : goal.loop-i-preserved
 loop-i-preserved c =
-    let cs = c.args.cells.now in let i = c.loop-i.i in let n = c.args.n in
+    let cs = cells_in c.args.arena.now in let i = c.loop-i.i in let n = c.args.n in
     let x = c.loop-i.x in let y = c.loop-i.y in
     let lt : i < n = omega arith in
     let m = arguments_more cs n i (held c.loop-i.pairs) _ x y lt c.loop-i.invariant.0 in
-    let nx = c.node.ensures in let ny = c.node-in-loop-i.ensures in
+    let nx = c.node.ensures.value in let ny = c.node-in-loop-i.ensures.value in
     let h = c.put.ensures.held in (
       elim c.if-i-n.branch [
         | goal.then-i-n w ↦

@@ -1,23 +1,14 @@
-use Rattle.std.proofs.Common.{get_or, sym, ◌∙◌, arith}
-use Rattle.std.proofs.lemmas.Bool.{cond-true}
-use Rattle.graphs.specs.Cells.{blank}
-use Rattle.graphs.proofs.Wholes.{all_fits, fits_arity}
+use Rattle.std.proofs.Common.{sym, ◌∙◌, arith}
+use Rattle.unification.specs.State.{cells_in}
+use Rattle.unification.proofs.Places.{shared_small}
 use Rattle.unification.proofs.solve.push_equation.Goals as goal
 
 pub push_args-requires : goal.push_args-requires
 push_args-requires c =
-    let cs = c.args.cells.now in
-    let h = fits_arity (get_or cs c.args.left blank) (all_fits cs c.args.left c.requires.fit) in
-    let s = c.requires.spare in
-    record { small = c.requires.small; spare = omega arith }
+    let h = shared_small (cells_in c.args.arena.now) c.args.arena.now.fit c.args.left c.args.right c.in-Some.n (sym c.shared_arity.ensures ∙ c.in-Some.is) in
+    omega arith
 
-pub returns-then-functors_match : goal.returns-then-functors_match
-returns-then-functors_match c =
-    let cs = c.args.cells.now in
-    let h = fits_arity (get_or cs c.args.left blank) (all_fits cs c.args.left c.requires.fit) in
-    let n = c.push_args.ensures.count in
-    record {
-      held = c.push_args.ensures.held ∙ sym (cond-true _ _ _ (sym c.if-functors_match.ensures));
-      count = omega arith;
-      room = c.push_args.ensures.room;
-    }
+pub returns-in-Some-clause-count : goal.returns-in-Some-clause-count
+returns-in-Some-clause-count c =
+    let h = shared_small (cells_in c.args.arena.now) c.args.arena.now.fit c.args.left c.args.right c.in-Some.n (sym c.shared_arity.ensures ∙ c.in-Some.is) in
+    omega arith

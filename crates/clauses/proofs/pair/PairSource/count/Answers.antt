@@ -4,5 +4,5 @@ use Rattle.clauses.proofs.pair.PairSource.count.Goals as goal
 
 pub returns : goal.returns
 returns g c =
-    let e = length_joint (g.A.Source.clauses c.args.self.now.first c.args.symbol c.args.arity) (g.B.Source.clauses c.args.self.now.second c.args.symbol c.args.arity) in
+    let e = length_joint (g.A.Source.clauses c.args.self.now.first c.args.predicate.symbol c.args.predicate.arity) (g.B.Source.clauses c.args.self.now.second c.args.predicate.symbol c.args.predicate.arity) in
     omega arith

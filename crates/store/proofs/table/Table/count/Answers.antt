@@ -1,6 +1,8 @@
-use Rattle.std.proofs.Common.{sym, arith}
-use Rattle.std.proofs.lemmas.List.{length-take-le}
+use Rattle.std.proofs.Common.{vec_items, arith}
+use Rattle.store.proofs.Loading.{cut_length}
 use Rattle.store.proofs.table.Table.count.Goals as goal
 
 pub returns : goal.returns
-returns c = (sym (length-take-le c.args.self.now.standing c.args.self.now.entries (omega arith)), omega arith)
+returns c =
+    let t = c.args.self.now in
+    let n = cut_length (vec_items t.places) (vec_items t.cells) in let ok = t.places.ok.0 in omega arith

@@ -1,48 +1,34 @@
-use Rattle.std.proofs.Common.{sym, subst, arith, rules}
-use Rattle.unification.specs.declared.Outcome.TheVariants.{False, Wrong}
+use Rattle.std.proofs.Common.{ap, ◌∙◌, arith}
+use Rattle.unification.specs.Held.{held, count, room}
+use Rattle.unification.specs.Outcomes.{opened}
 use Rattle.unification.specs.State.{cells_of, links_of}
-use Rattle.unification.specs.Standing.{Unified}
+use Rattle.unification.proofs.Runs.{few_cells}
+use Rattle.unification.proofs.States.{first_ready, told_next, led_next}
 use Rattle.unification.proofs.Standing.{unified}
 use Rattle.unification.proofs.bindings.Bindings.unify.Goals as goal
 
-pub returns-in-Solved : goal.returns-in-Solved
-returns-in-Solved g c =
-    let b = c.args.self.now in let few = b.few in let ok = b.cells.ok.0 in
-    record {
-      some = search rules;
-      cells = search rules;
-      settles = search rules;
-      tells = search rules;
-      leads = search rules;
-      means = unified (g.S.Signature.kind c.args.signature.now) (cells_of b) (omega arith) (links_of b) c.args.left c.args.right (links_of c.equate-outcome.new.self) c.equate-outcome.result
-          c.equate-outcome.ensures.tells c.equate-outcome.ensures.leads;
-    }
+pub settle-requires : goal.settle-requires
+settle-requires g c =
+    let b = c.args.self.now in let pairs = c.push_equation.new.pairs in
+    let st = c.push_equation.ensures.held ∙ ap (opened (cells_of b) c.args.left c.args.right) c.new-pairs.ensures.held in
+    first_ready b.arena b.links c.args.left c.args.right (held pairs) (count pairs) (room pairs) st (omega arith) (omega arith)
 
--- links that are taken back stand for nothing new
-pub returns-in-False : goal.returns-in-False
-returns-in-False g c =
-    let b = c.args.self.now in let few = b.few in let ok = b.cells.ok.0 in
-    let kind = g.S.Signature.kind c.args.signature.now in let back = links_of c.take_back.new.self in
-    record {
-      some = search rules;
-      cells = search rules;
-      settles = search rules;
-      tells = search rules;
-      leads = search rules;
-      means = subst (Unified kind (cells_of b) (links_of b) c.args.left c.args.right back) (sym c.in-False.is)
-          (unified kind (cells_of b) (omega arith) (links_of b) c.args.left c.args.right back False c.in-False.ensures.tells (λ E e a. tt));
-    }
+pub returns-clause-tells : goal.returns-clause-tells
+returns-clause-tells g c =
+    let kind = g.S.Signature.kind c.args.signature.now in let b = c.args.self.now in
+    let st = c.push_equation.ensures.held ∙ ap (opened (cells_of b) c.args.left c.args.right) c.new-pairs.ensures.held in
+    told_next kind (cells_of b) (few_cells b.arena) (links_of b) c.args.left c.args.right (held c.push_equation.new.pairs) st (links_of c.settle.new.self) c.settle.result c.settle.ensures.tells
 
-pub returns-in-Wrong : goal.returns-in-Wrong
-returns-in-Wrong g c =
-    let b = c.args.self.now in let few = b.few in let ok = b.cells.ok.0 in
-    let kind = g.S.Signature.kind c.args.signature.now in let back = links_of c.take_back-in-Wrong.new.self in
-    record {
-      some = search rules;
-      cells = search rules;
-      settles = search rules;
-      tells = search rules;
-      leads = search rules;
-      means = subst (Unified kind (cells_of b) (links_of b) c.args.left c.args.right back) (sym c.in-Wrong.is)
-          (unified kind (cells_of b) (omega arith) (links_of b) c.args.left c.args.right back Wrong c.in-Wrong.ensures.tells (λ E e a. tt));
-    }
+pub returns-clause-leads : goal.returns-clause-leads
+returns-clause-leads g c =
+    let kind = g.S.Signature.kind c.args.signature.now in let b = c.args.self.now in
+    let st = c.push_equation.ensures.held ∙ ap (opened (cells_of b) c.args.left c.args.right) c.new-pairs.ensures.held in
+    led_next kind (cells_of b) (few_cells b.arena) (links_of b) c.args.left c.args.right (held c.push_equation.new.pairs) st (links_of c.settle.new.self) c.settle.result c.settle.ensures.leads
+
+pub returns-clause-means : goal.returns-clause-means
+returns-clause-means g c =
+    let kind = g.S.Signature.kind c.args.signature.now in let b = c.args.self.now in
+    let st = c.push_equation.ensures.held ∙ ap (opened (cells_of b) c.args.left c.args.right) c.new-pairs.ensures.held in
+    unified kind (cells_of b) (few_cells b.arena) (links_of b) c.args.left c.args.right (links_of c.settle.new.self) c.settle.result
+    (told_next kind (cells_of b) (few_cells b.arena) (links_of b) c.args.left c.args.right (held c.push_equation.new.pairs) st (links_of c.settle.new.self) c.settle.result c.settle.ensures.tells)
+    (led_next kind (cells_of b) (few_cells b.arena) (links_of b) c.args.left c.args.right (held c.push_equation.new.pairs) st (links_of c.settle.new.self) c.settle.result c.settle.ensures.leads)

@@ -7,6 +7,8 @@
 ghost use Rattle.std.specs.Prelude.{◌≡◌, ◌+◌, ◌<◌, ◌≤◌, ◌++◌, length, IfOk, string_bytes, OnOk};
 ghost use Rattle.records.specs.Faults.{fault_of};
 ghost use Rattle.record_cases.specs.Spelling.{hex_of, is_blank, spelled, symbol_at, fault_text};
+ghost use Rattle.record_cases.specs.Shown.{fact_shown, facts_shown, pairs_shown, bench, told};
+ghost use Rattle.records.specs.Meaning.{record_clauses};
 
 use book::Book;
 use clauses::pair::Pair;
@@ -92,7 +94,9 @@ fn show_fact<S: Source>(
     source: &S,
     predicate: Predicate,
     i: usize,
-) -> Result<(), AllocError> {
+) -> Result<(), AllocError>
+    ensures { OnOk result (string_bytes out.new ≡ string_bytes out.old ++ fact_shown (S.clauses source.now predicate.symbol predicate.arity) i) }
+{
     let mut cells = [Cell::default(); 3];
     if source.write(predicate, i, 0, &mut cells, 0).is_err() {
         return out.push_str(" refused");
@@ -111,7 +115,9 @@ fn show_facts<S: Source>(
     out: &mut String,
     source: &S,
     predicate: Predicate,
-) -> Result<(), AllocError> {
+) -> Result<(), AllocError>
+    ensures { OnOk result (string_bytes out.new ≡ string_bytes out.old ++ facts_shown (S.clauses source.now predicate.symbol predicate.arity)) }
+{
     let n = source.count(predicate);
     let text = format!(in heap; " | {n}")?;
     out.push_str(text.as_str())?;
@@ -132,7 +138,9 @@ fn show_pairs(
     records: Records,
     bytes: &[u8],
     symbols: Symbols,
-) -> Result<(), AllocError> {
+) -> Result<(), AllocError>
+    ensures { OnOk result (string_bytes out.new ≡ string_bytes out.old ++ pairs_shown symbols (record_clauses records) (bench symbols bytes.now)) }
+{
     let lot = pair_of(symbols.lot);
     let one = total(&records, lot);
     let pair = Pair::new(records, Records::new(heap, bytes, symbols)?);
@@ -146,12 +154,14 @@ fn show_pairs(
 }
 
 // What the records tell: the fault, the facts under each symbol, and the pairs.
-fn told(heap: Global, bytes: &[u8], symbols: Symbols) -> Result<String, AllocError> {
+fn told(heap: Global, bytes: &[u8], symbols: Symbols) -> Result<String, AllocError>
+    ensures { IfOk result (λ text. string_bytes text ≡ told symbols bytes.now) }
+{
     let mut out = fault_text(heap, bytes)?;
     let records = Records::new(heap, bytes, symbols)?;
-    for symbol in [symbols.lot, symbols.stage, symbols.cycles] {
-        show_facts(heap, &mut out, &records, pair_of(symbol))?;
-    }
+    show_facts(heap, &mut out, &records, pair_of(symbols.lot))?;
+    show_facts(heap, &mut out, &records, pair_of(symbols.stage))?;
+    show_facts(heap, &mut out, &records, pair_of(symbols.cycles))?;
     show_pairs(heap, &mut out, records, bytes, symbols)?;
     Ok(out)
 }

@@ -5,7 +5,7 @@ use Rattle.std.specs.List.{insert, between}
 use Rattle.std.proofs.lemmas.List.Elements.{filter-append, All-append, All-cons, All-drop, All-from_get_or, All-get_or, All-weaker, All-head, All-tail, All-take}
 use Rattle.std.proofs.lemmas.List.Edits.{split_between, length-between, get_or-between, length-insert, get_or-insert_below, get_or-insert_at, get_or-insert_above}
 use Rattle.std.proofs.lemmas.List.{append-nil, take-append-drop, get_or-take, get_or-drop, length-drop, length-take-le}
-use Rattle.std.proofs.lemmas.Bool.{cases_Bool, cases_order, cond-true, cond-false, both_ways}
+use Rattle.std.proofs.lemmas.Bool.{cases_Bool, cases_lt, cases_order, cond-true, cond-false, both_ways}
 use Rattle.std.proofs.lemmas.Bool.Decides.{nat_tests}
 use Rattle.std.specs.List.Sorted.{IsPartitionedBy, IsPartitionPoint}
 use Rattle.std.specs.Bool.{then_some}
@@ -56,6 +56,12 @@ not_after p n r e = grind (arith, nat_tests)
 
 for_between : (p n : ℕ) (r : Row) → before r.predicate (predicate_of p n) ≡ false → up_to r.predicate (predicate_of p n) ≡ true → is_for p n r ≡ true
 for_between p n r e f = grind (arith, nat_tests)
+
+up_to-own : (p n : ℕ) (r : Row) → is_for p n r ≡ true → up_to r.predicate (predicate_of p n) ≡ true
+up_to-own p n r e = grind (arith, nat_tests)
+
+not_own : (p n : ℕ) (r : Row) → before r.predicate (predicate_of p n) ≡ false → is_for p n r ≡ false → up_to r.predicate (predicate_of p n) ≡ false
+not_own p n r e f = grind (arith, nat_tests)
 
 for_other : (p n : ℕ) (q r : Row) → is_for p n r ≡ true → up_to q.predicate r.predicate ≡ false → is_for p n q ≡ false
 for_other p n q r e f = grind (arith, nat_tests)
@@ -179,6 +185,58 @@ rising_more rows at r s w i k d l = let long = length-insert rows at r w.most in
 -- a row of another predicate is followed by none of the predicate
 for_later : (p n : ℕ) (x y : Row) → before x.predicate (predicate_of p n) ≡ false → is_for p n x ≡ false → up_to x.predicate y.predicate ≡ true → is_for p n y ≡ false
 for_later p n x y e f g = grind (arith, nat_tests)
+
+-- the rows from a predicate's first on: its own stand first, and are all its rows
+module _ (p n : ℕ) (rows rest : List Row) (w : From rows (predicate_of p n) rest) where
+  pub parted_rest : Rising rows → IsPartitionedBy (is_for p n) rest
+  parted_rest s =
+      let a = w.first in
+      let l = length-drop a rows in
+      subst (IsPartitionedBy (is_for p n)) (sym w.after)
+      (λ i j d o h k.
+      let x = slice_index_or rows (a + i) d in
+      let y = slice_index_or rows (a + j) d in
+      let b = w.parted.above (a + i) d (omega arith) (omega arith) in
+      let u = far rows s (a + i) (a + j) d (omega arith) (omega arith) in
+      subst (λ z. is_for p n z ≡ true) (sym (get_or-drop a rows i d))
+      (elim (cases_Bool (is_for p n x)) [
+        | inl e ↦ e
+        | inr e ↦ absurd (both_ways (is_for p n y) (for_later p n x y b e u) (subst (λ z. is_for p n z ≡ true) (get_or-drop a rows j d) k))
+      ]))
+
+  module _ (count : ℕ) (most : count ≤ length rest) (v : IsPartitionPoint (λ r. is_for p n r ≡ true) (λ r. is_for p n r ≡ false) rest count) where
+    at_rest : (k : ℕ) (d : Row) → w.first ≤ k → slice_index_or rest (k - w.first) d ≡ slice_index_or rows k d
+    at_rest k d h =
+        let e : w.first + (k - w.first) ≡ k = omega arith in
+        ap (λ xs. slice_index_or xs (k - w.first) d) w.after ∙ (get_or-drop w.first rows (k - w.first) d ∙ ap (λ m. slice_index_or rows m d) e)
+
+    up_to_count : (k : ℕ) (d : Row) → k < w.first + count → up_to (slice_index_or rows k d).predicate (predicate_of p n) ≡ true
+    up_to_count k d h =
+        let r = slice_index_or rows k d in
+        elim (cases_lt k w.first) [
+          | inl l ↦ up_to-before r.predicate (predicate_of p n) (w.parted.below k d l)
+          | inr l ↦
+              let f : is_for p n r ≡ true = subst (λ x. is_for p n x ≡ true) (at_rest k d l) (v.0 (k - w.first) d (omega arith) (omega arith)) in
+              up_to-own p n r f
+        ]
+
+    parted_rows : Parted rows (λ q. up_to q (predicate_of p n)) (w.first + count)
+    parted_rows =
+        let m = w.parted.most in
+        let l : length rest ≡ length rows - w.first = ap length w.after ∙ length-drop w.first rows in
+        record {
+          most = omega arith;
+          below = up_to_count;
+          above = λ k d h o.
+              not_own p n (slice_index_or rows k d) (w.parted.above k d (omega arith) o)
+              (subst (λ x. is_for p n x ≡ false) (at_rest k d (omega arith)) (v.1 (k - w.first) d (omega arith) (omega arith)));
+        }
+
+    pub rows_found : take count rest ≡ filter (is_for p n) rows
+    rows_found =
+        let a = w.first in
+        let e : count ≡ a + count - a = omega arith in
+        ap (take count) w.after ∙ (ap (λ m. take m (drop a rows)) e ∙ sym (kept_range p n a (a + count) rows w.parted parted_rows))
 
 -- what is found, if it is the predicate's
 abbrev pub Passed : ℕ → ℕ → Option Row → Option Row → Type 0

@@ -37,8 +37,9 @@ impl Book {
     pub(crate) fn rows_of(&self, predicate: Predicate) -> &[Row]
         ensures { result.now ≡ filter (is_for predicate.symbol predicate.arity) self.now.rows.items }
     {
-        let first = self.start_of(predicate);
-        let end = self.end_of(predicate);
-        &self.rows.as_slice()[first..end]
+        let rest = self.rows_from(predicate);
+        // those of the predicate stand first, and to compare for equality is quicker than by order
+        let end = rest.partition_point(|row| row.predicate == predicate);
+        &rest[..end]
     }
 }

@@ -1,8 +1,7 @@
 -- Words at their spans.
-use Rattle.std.proofs.Common.{◌≡◌, ℕ, suc, ◌+◌, ◌-◌, ◌<◌, ◌≤◌, min, leb, List, [], ◌∷◌, ◌++◌, length, get_or, take, drop, sym, refl, ap, ◌∙◌, inl, inr, arith}
+use Rattle.std.proofs.Common.{◌≡◌, ℕ, suc, ◌+◌, ◌-◌, ◌<◌, ◌≤◌, leb, List, [], ◌∷◌, ◌++◌, length, get_or, take, drop, sym, refl, ap, ◌∙◌, inl, inr, arith}
 use Rattle.std.proofs.lemmas.List.{length-map, get_or-map, map-append, length-drop, take-append-le, drop-append-le, drop_more, drop_at, take_all, map_more, drop_all}
 use Rattle.std.proofs.lemmas.Bool.{cases_lt, lt-leb, le-leb}
-use Rattle.std.specs.List.{fold}
 use Rattle.lexis.specs.Worth.{word_of}
 use Rattle.lexis.specs.declared.token.Span.{Span}
 use Rattle.names.specs.Spans.{word_at, words_in, bytes_of}
@@ -88,19 +87,9 @@ name_added bytes more name spans others s e eb es hs he inside =
 pub name_bytes : (bytes more name : List ℕ) (spans others : List Span) → words_in more others ≡ words_in bytes spans ++ name ∷ [] → bytes_of (words_in more others) ≡ bytes_of (words_in bytes spans) + length name
 name_bytes bytes more name spans others e = ap bytes_of e ∙ (bytes_append (words_in bytes spans) (name ∷ []) ∙ omega arith)
 
-pub leb_room : (m n k r : ℕ) → r ≡ min n 18446744073709551615 → m ≤ k → k ≤ 4096 → leb r (k - m) ≡ leb (m + n) k
-leb_room m n k r e h small =
+pub leb_shift : (m n k : ℕ) → m ≤ k → leb n (k - m) ≡ leb (m + n) k
+leb_shift m n k h =
     elim (cases_lt k (m + n)) [
-      | inl a ↦ lt-leb r (k - m) (omega arith) ∙ sym (lt-leb (m + n) k a)
-      | inr a ↦ le-leb r (k - m) (omega arith) ∙ sym (le-leb (m + n) k a)
+      | inl a ↦ lt-leb n (k - m) (omega arith) ∙ sym (lt-leb (m + n) k a)
+      | inr a ↦ le-leb n (k - m) (omega arith) ∙ sym (le-leb (m + n) k a)
     ]
-
-fold_bytes : (bytes : List ℕ) (n : ℕ) (spans : List Span) → n ≤ 18446744073709551615
-    → fold (λ k s. min (k + length (word_at bytes s)) 18446744073709551615) n spans ≡ min (n + bytes_of (words_in bytes spans)) 18446744073709551615
-unfolding words_in
-fold_bytes bytes n [] h = omega arith
-fold_bytes bytes n (s ∷ ss) h = omega (arith, fold_bytes bytes (min (n + length (word_at bytes s)) 18446744073709551615) ss (omega arith))
-
--- held below 2^64 at each word, the bytes of words are as if they were held there at the end
-pub bytes_held : (bytes : List ℕ) (spans : List Span) → fold (λ k s. min (k + length (word_at bytes s)) 18446744073709551615) 0 spans ≡ min (bytes_of (words_in bytes spans)) 18446744073709551615
-bytes_held bytes spans = omega (arith, fold_bytes bytes 0 spans (omega arith))

@@ -1,5 +1,5 @@
 // Looking names up, and adding new ones.
-ghost use Rattle.std.specs.Prelude.{◌≡◌, ℕ, ◌+◌, ◌-◌, ◌<◌, ◌≤◌, min, true, false, List, [], ◌∷◌, ◌++◌, length, IfOk, IfSome, MatchResult, vec_len, vec_capacity};
+ghost use Rattle.std.specs.Prelude.{◌≡◌, ℕ, ◌+◌, ◌-◌, ◌<◌, ◌≤◌, true, false, List, [], ◌∷◌, ◌++◌, length, IfOk, IfSome, MatchResult, vec_len, vec_capacity, if◌then◌else◌, nat_le};
 ghost use Rattle.names.specs.Places.{found_in};
 ghost use Rattle.names.specs.Spans.{words_in, bytes_of};
 ghost use Rattle.names.specs.Words.{names_of, names_fit};
@@ -16,13 +16,15 @@ fn place_in(bytes: &[u8], spans: &[Span], sought: &[u8]) -> Option<usize>
     spans.iter().position(|s| word(bytes, *s) == sought)
 }
 
-// How many bytes the words of a text at the spans take, or the largest number where it is larger.
-fn bytes_at(text: &[u8], spans: &[Span]) -> usize
-    ensures { result ≡ min (bytes_of (words_in text.now spans.now)) 18446744073709551615 }
+// What is left of so much room after the words of a text at the spans; none at the first word that it does not hold, so that no more are looked at.
+fn room_after(text: &[u8], spans: &[Span], room: usize) -> Option<usize>
+    ensures { result ≡ (if nat_le (bytes_of (words_in text.now spans.now)) room then Some (room - bytes_of (words_in text.now spans.now)) else None) }
 {
-    spans
-        .iter()
-        .fold(0usize, |n, s| n.saturating_add(word(text, *s).len()))
+    let mut left = room;
+    for s in spans {
+        left = left.checked_sub(word(text, *s).len())?;
+    }
+    Some(left)
 }
 
 impl Names {
@@ -50,7 +52,8 @@ impl Names {
         ensures value { result ≡ names_fit (names_of self.now ++ words_in text.now spans.now) }
         ensures room { result ≡ true → (vec_len self.now.spans + length spans.now ≤ 256) × (vec_len self.now.bytes + bytes_of (words_in text.now spans.now) ≤ 4096) }
     {
-        spans.len() <= NAMES - self.spans.len() && bytes_at(text, spans) <= BYTES - self.bytes.len()
+        spans.len() <= NAMES - self.spans.len()
+            && room_after(text, spans, BYTES - self.bytes.len()).is_some()
     }
 
     // One name more, where there is room.

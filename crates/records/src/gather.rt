@@ -4,7 +4,7 @@ ghost use Rattle.records.specs.Format.{record_in};
 ghost use Rattle.records.specs.Faults.{end_of};
 
 use crate::fact::{Fact, Symbols, Value};
-use crate::format::{Record, record_in};
+use crate::format::{Record, fields_len, record_in};
 use std::alloc::{AllocError, Global};
 
 // A list has at most so many facts.
@@ -20,10 +20,11 @@ pub struct Listing {
 }
 
 impl Listing {
-    ghost use Rattle.std.specs.Prelude.{[], ◌++◌, filter, OnOk};
+    ghost use Rattle.std.specs.Prelude.{[], ◌++◌, filter, IfOk, OnOk};
     ghost use Rattle.records.specs.Facts.{record_facts, is_for, cut, with_fact};
+    ghost use Rattle.records.specs.Meaning.{Gathers};
 
-    pub(crate) fn new(heap: Global, symbol: u16) -> Listing
+    fn new(heap: Global, symbol: u16) -> Listing
         ensures { (result.symbol ≡ symbol) × (result.facts.items ≡ []) }
     {
         Listing {
@@ -47,7 +48,7 @@ impl Listing {
     }
 
     // A record's facts under the symbol, in the order of the bits.
-    pub(crate) fn add_record(&mut self, symbols: Symbols, said: Record) -> Result<(), AllocError>
+    fn add_record(&mut self, symbols: Symbols, said: Record) -> Result<(), AllocError>
         ensures items { OnOk result (self.new.facts.items ≡ cut (self.old.facts.items ++ filter (is_for self.old.symbol) (record_facts symbols said))) }
         ensures symbol { self.new.symbol ≡ self.old.symbol }
     {
@@ -55,10 +56,33 @@ impl Listing {
         self.add(Fact::of(symbols.stage, said.card, said.stage.map(Value::Atom)))?;
         self.add(Fact::of(symbols.cycles, said.card, said.cycles.map(Value::Integer)))
     }
+
+    // The facts under the symbol of the records before the place where the good ones end. Each list is gathered in a pass of its own: lists that grow side
+    // by side are copied at each growth.
+    pub(crate) fn gather(
+        heap: Global,
+        bytes: &[u8],
+        end: usize,
+        symbols: Symbols,
+        symbol: u16,
+    ) -> Result<Listing, AllocError>
+        requires place { end ≡ end_of bytes.now }
+        requires within { end ≤ length bytes.now }
+        ensures { IfOk result (λ l. Gathers symbols bytes.now symbol l) }
+    {
+        let mut listing = Listing::new(heap, symbol);
+        let mut at: usize = 0;
+        // not byte by byte: each record is as long as its map says
+        while at < end {
+            listing.add_record(symbols, record_at(bytes, at))?;
+            at += 1 + fields_len(bytes[at]);
+        }
+        Ok(listing)
+    }
 }
 
 // The good record at a place.
-pub(crate) fn record_at(bytes: &[u8], at: usize) -> Record
+fn record_at(bytes: &[u8], at: usize) -> Record
     requires { (at < length bytes.now) × (0 < end_of (drop at bytes.now)) }
     ensures { result ≡ record_in (drop at bytes.now) }
 {

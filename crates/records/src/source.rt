@@ -6,8 +6,7 @@ ghost use Rattle.records.specs.Sourcing.{records_short, records_formed};
 
 use crate::Records;
 use crate::fact::{Fact, Symbols};
-use crate::format::fields_len;
-use crate::gather::{Listing, record_at};
+use crate::gather::Listing;
 use crate::scan::first_bad;
 use clauses::{Predicate, ProgramSource, Refusal, Source, rename};
 use std::alloc::{AllocError, Global};
@@ -18,19 +17,10 @@ impl Records {
     pub fn new(heap: Global, bytes: &[u8], symbols: Symbols) -> Result<Records, AllocError>
         ensures { IfOk result (λ s. ((p n : ℕ) → record_clauses s p n ≡ map cells_of (cut (facts_under symbols bytes.now p n)))) }
     {
-        let mut lots = Listing::new(heap, symbols.lot);
-        let mut stages = Listing::new(heap, symbols.stage);
-        let mut cycles = Listing::new(heap, symbols.cycles);
         let end = first_bad(bytes);
-        let mut at: usize = 0;
-        // not byte by byte: each record is as long as its map says
-        while at < end {
-            let said = record_at(bytes, at);
-            lots.add_record(symbols, said)?;
-            stages.add_record(symbols, said)?;
-            cycles.add_record(symbols, said)?;
-            at += 1 + fields_len(bytes[at]);
-        }
+        let lots = Listing::gather(heap, bytes, end, symbols, symbols.lot)?;
+        let stages = Listing::gather(heap, bytes, end, symbols, symbols.stage)?;
+        let cycles = Listing::gather(heap, bytes, end, symbols, symbols.cycles)?;
         Ok(Records {
             lots,
             stages,

@@ -101,6 +101,13 @@ module _ (cs : List Cell) (small : length cs ≤ 1568) where
     pub unified_all : (o : Outcome) → Tells kind cs l (stacked cs es []) l' o → Leads kind cs l (stacked cs es []) l' o → UnifiedAll kind cs l es l' o
     unified_all o tells leads E F s spelt = (all_means E F s spelt o tells, all_standing E F s spelt o leads)
 
+-- unless all are solved, nothing is told of the links after
+pub unified_false : (kind : ℕ → ℕ → ℕ) (cs : List Cell) (l : List ℕ) (es : List Equation) (l' back : List ℕ) → UnifiedAll kind cs l es l' False → UnifiedAll kind cs l es back False
+unified_false kind cs l es l' back u E F s spelt = ((u E F s spelt).0, λ e. let z : ◌≡◌ {A = ℕ} 0 1 = cc in absurd (omega arith))
+
+pub unified_wrong : (kind : ℕ → ℕ → ℕ) (cs : List Cell) (l : List ℕ) (es : List Equation) (l' back : List ℕ) → UnifiedAll kind cs l es l' Wrong → UnifiedAll kind cs l es back Wrong
+unified_wrong kind cs l es l' back u E F s spelt = ((u E F s spelt).0, λ e. let z : ◌≡◌ {A = ℕ} 0 1 = cc in absurd (omega arith))
+
 -- the stack of all equations is ready to be solved
 pub all_ready : (a : Arena) (k : Links) (es : List Equation) (st : List Pair) (n m : ℕ) → st ≡ stacked (cells_in a) es [] → n ≤ 16 → 12864 ≤ m → Ready (cells_in a) (links_in k) st n m
 all_ready a k es st n m se ne room =

@@ -1,12 +1,13 @@
 -- Where a branch goes on.
-use Rattle.std.proofs.Common.{◌≡◌, ℕ, ◌<◌, ◌≤◌, Bool, true, false, cond, leb, IfSome, Some, None, Option, sym, refl, ap, ◌∙◌, arith}
+use Rattle.std.proofs.Common.{◌≡◌, ℕ, ◌<◌, ◌≤◌, Bool, true, false, cond, ltb, leb, IfSome, Some, None, Option, sym, refl, ap, ◌∙◌, arith}
 use Rattle.std.proofs.lemmas.Bool.{leb-false}
 use Rattle.unification.specs.declared.Outcome.{Outcome}
 use Rattle.unification.specs.declared.Outcome.TheVariants as outcome
 use Rattle.verdicts.specs.declared.ending.Left.{Left}
 use Rattle.verdicts.specs.declared.ending.Left.TheVariants as left
 use Rattle.verdicts.specs.declared.ending.Ending.{Ending}
-use Rattle.verdicts.specs.Leaves.{flag_after, state_of, ending_of, verdict_of, verdict_by, Few}
+use Rattle.verdicts.specs.declared.ending.Ending.TheVariants.{Success, Untrue, Wrong, Cut}
+use Rattle.verdicts.specs.Leaves.{flag_after, state_of, ending_of, noted, least, verdict_of, verdict_by, Few}
 use Rattle.verdicts.specs.declared.Verdict.TheVariants.{Holds}
 use Rattle.verdicts.specs.declared.ending.Leaves.{Leaves}
 
@@ -34,6 +35,22 @@ goals_early true step limit e = go (leb limit step) refl
 -- and it goes on below the limit
 pub on_early : (f g : Bool) (step limit : ℕ) (l : Left) (o : Outcome) (end : Option Ending) → end ≡ ending_of f l o → l ≡ state_of g step limit → end ≡ None → step < limit
 on_early f g step limit l o end e s h = goals_early g step limit (sym s ∙ on_goals f l o (sym e ∙ h))
+
+-- a success within 32 steps keeps the uses within 32
+pub few_noted : (l : Leaves) (end : Option Ending) (n : ℕ) → n ≤ 32 → Few l → Few (noted l end n)
+few_noted l (Some Success) n h f = go l.uses f
+  where
+    go : (o : Option ℕ) → IfSome o (λ k. k ≤ 32) → IfSome (least o n) (λ k. k ≤ 32)
+    go None g = h
+    go (Some m) g = by (ltb n m)
+      where
+        by : (b : Bool) → IfSome (cond b (Some n) (Some m)) (λ k. k ≤ 32)
+        by true = h
+        by false = g
+few_noted l (Some Untrue) n h f = f
+few_noted l (Some Wrong) n h f = f
+few_noted l (Some Cut) n h f = f
+few_noted l None n h f = f
 
 -- the uses of a verdict are those of the leaves, within 32
 pub holds_few : (l : Leaves) (n : ℕ) → Holds n ≡ verdict_of l → Few l → n ≤ 32

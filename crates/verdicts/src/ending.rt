@@ -70,26 +70,26 @@ impl Leaves {
         self.uses.is_none_or(|best| uses < best)
     }
 
-    // The leaves with one more, after so many steps.
-    pub fn note(self, end: Ending, step: u8) -> Leaves
-        ensures { result ≡ noted self (Some end) step }
+    // The leaves with one more, after so many steps, where the branch ends there; as they are, where it goes on.
+    pub fn note(self, end: Option<Ending>, step: u8) -> Leaves
+        ensures { result ≡ noted self end step }
     {
         match end {
-            Ending::Success if self.is_shorter(step) => Leaves {
+            Some(Ending::Success) if self.is_shorter(step) => Leaves {
                 uses: Some(step),
                 wrong: false,
                 ..self
             },
-            Ending::Success | Ending::Untrue => Leaves {
+            Some(Ending::Success | Ending::Untrue) => Leaves {
                 wrong: false,
                 ..self
             },
-            Ending::Cut => Leaves {
+            Some(Ending::Cut) => Leaves {
                 cut: true,
                 wrong: false,
                 ..self
             },
-            Ending::Wrong => self,
+            Some(Ending::Wrong) | None => self,
         }
     }
 

@@ -57,7 +57,7 @@ impl Machine {
             }),
             Some(end) => {
                 self.keep_path(end, progress.tally.leaves, node.step);
-                progress.tally.leaves = progress.tally.leaves.note(end, node.step);
+                progress.tally.leaves = progress.tally.leaves.note(Some(end), node.step);
             }
         }
     }

@@ -35,8 +35,12 @@ impl Links {
         ensures below { result ≤ node }
     {
         let up = self.up.as_slice();
+        if node >= up.len() {
+            return node;
+        }
+        // links never go up, so no place needs a test against the end
         let mut at = node;
-        while at < up.len() && up[at] != at {
+        while up[at] != at {
             at = up[at];
         }
         at

@@ -1,18 +1,15 @@
-use Rattle.std.proofs.Common.{◌-◌, take, drop, ap, sym, ◌∙◌, vec_items, rules}
-use Rattle.book.specs.Rows.{parted_order, kept_range}
+use Rattle.std.proofs.Common.{vec_items, rules}
+use Rattle.std.proofs.lemmas.List.Sorted.{IsPartitionPoint-from_clause}
+use Rattle.book.specs.Meaning.{is_for}
+use Rattle.book.specs.Rows.{parted_rest, rows_found}
 use Rattle.book.proofs.Book.rows_of.Goals as goal
-
-pub slice_bounds-result-count : goal.slice_bounds-result-count
-slice_bounds-result-count c = parted_order c.args.predicate.symbol c.args.predicate.arity c.start_of-first.result c.end_of-end.result (vec_items c.args.self.now.rows) c.start_of-first.ensures c.end_of-end.ensures
-
-pub slice_bounds-result-start : goal.slice_bounds-result-start
-slice_bounds-result-start c =
-    let o = parted_order c.args.predicate.symbol c.args.predicate.arity c.start_of-first.result c.end_of-end.result (vec_items c.args.self.now.rows) c.start_of-first.ensures c.end_of-end.ensures in
-    search rules
 
 pub returns : goal.returns
 returns c =
-    let a = c.start_of-first.result in
-    let e = c.end_of-end.result in
-    ap (λ xs. take (e - a) (drop a xs)) c.as_slice.ensures.value
-    ∙ sym (kept_range c.args.predicate.symbol c.args.predicate.arity a e (vec_items c.args.self.now.rows) c.start_of-first.ensures c.end_of-end.ensures)
+    let p = c.args.predicate in
+    let rows = vec_items c.args.self.now.rows in
+    let rest = c.rows_from-rest.result.now in
+    let w = c.rows_from-rest.ensures in
+    let parted = parted_rest p.symbol p.arity rows rest w c.args.self.now.sorted in
+    let point = IsPartitionPoint-from_clause (is_for p.symbol p.arity) _ _ c.partition_point-end.ensures.partitioned parted (λ a r q k. search rules) in
+    rows_found p.symbol p.arity rows rest w c.partition_point-end.result c.partition_point-end.ensures.bound point

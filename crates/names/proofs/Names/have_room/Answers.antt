@@ -1,10 +1,15 @@
-use Rattle.std.proofs.Common.{◌≡◌, ◌+◌, ◌-◌, ◌&&◌, leb, ◌++◌, length, vec_items, vec_len, sym, ap, ◌∙◌, arith}
+use Rattle.std.proofs.Common.{◌≡◌, ℕ, ◌+◌, ◌-◌, Bool, true, false, cond, ◌&&◌, leb, ◌++◌, length, vec_items, vec_len, is_some, Some, None, sym, refl, ap, ◌∙◌, arith}
 use Rattle.std.proofs.lemmas.List.{length-append}
 use Rattle.std.proofs.lemmas.Bool.{le-leb, lt-leb, leb-true, both_ways, and_left}
 use Rattle.names.specs.Spans.{words_in, bytes_of}
 use Rattle.names.specs.Words.{names_of}
-use Rattle.names.proofs.Tables.{length_words, bytes_append, leb_room}
+use Rattle.names.proofs.Tables.{length_words, bytes_append, leb_shift}
 use Rattle.names.proofs.Names.have_room.Goals as goal
+
+-- there is room left exactly where the words fit
+held : (b : Bool) (n : ℕ) → is_some (cond b (Some n) None) ≡ b
+held true n = refl
+held false n = refl
 
 pub returns-then-spans-len : goal.returns-then-spans-len
 returns-then-spans-len c =
@@ -19,9 +24,8 @@ returns-then-spans-len c =
     let g = n.filled in
     let e : bytes_of (names_of n ++ ws) ≡ vec_len n.bytes + bytes_of ws = omega arith in
     let lenₑ = c.len-then-spans-len.ensures in
-    let v =
-    ap (λ m. leb c.bytes_at.result (4096 - m)) lenₑ
-    ∙ (leb_room (vec_len n.bytes) (bytes_of ws) 4096 c.bytes_at.result c.bytes_at.ensures n.small (omega arith) ∙ ap (λ m. leb m 4096) (sym e)) in
+    let told = c.is_some.ensures ∙ (ap is_some c.room_after.ensures ∙ held (leb (bytes_of ws) (4096 - c.len-then-spans-len.result)) _) in
+    let v = told ∙ (ap (λ m. leb (bytes_of ws) (4096 - m)) lenₑ ∙ (leb_shift (vec_len n.bytes) (bytes_of ws) 4096 n.small ∙ ap (λ m. leb m 4096) (sym e))) in
     record {
       value = v ∙ ap (λ t. t && leb (bytes_of (names_of n ++ ws)) 4096) (sym (le-leb (length (names_of n ++ ws)) 256 (omega arith)));
       room = λ h. (omega arith, omega (arith, leb-true (bytes_of (names_of n ++ ws)) 4096 (sym v ∙ h)));

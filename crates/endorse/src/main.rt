@@ -10,7 +10,8 @@ use std::io::Read;
 // The bytes that are read: one more than is allowed shows that there are too many.
 const ROOM: usize = MOST_BYTES + 1;
 
-// Fills the buffer from standard input, and tells how many bytes came.
+// Fills the buffer from standard input, and tells how many bytes came. A fixed buffer, filled turn by turn: to read to the end into a vector would take
+// memory, which may be wanting.
 fn read_all(rt: &HostRuntime, buffer: &mut [u8]) -> io::Result<usize>
     ensures { IfOk result (λ n. n ≤ length buffer.old) }
 {
